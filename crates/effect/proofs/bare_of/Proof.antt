@@ -1,0 +1,15 @@
+use Rattle.effect.proofs.bare_of.Statement.{statement}
+use Rattle.effect.proofs.bare_of.Tie as tie
+use Rattle.effect.proofs.bare_of.Reads as reads
+use Rattle.effect.proofs.bare_of.Lts as lts
+
+-- src/lib.rt:46:1
+returns : tie.Need-returns
+returns c = ?
+
+-- src/lib.rt:46:1
+returns-2 : tie.Need-returns-2
+returns-2 c = ?
+
+pub bare-of-spec : {M : Type 1} → statement M
+bare-of-spec = tie.close (tie.spec returns returns-2)

@@ -1,0 +1,71 @@
+use borrow.Author.Needs.{needs}
+use Rattle.effect.proofs.of_kind.Statement.{statement}
+use Rattle.effect.proofs.of_kind.Tie as tie
+use Rattle.effect.proofs.of_kind.Reads as reads
+use Rattle.effect.proofs.of_kind.Lts as lts
+use Rattle.effect.proofs.bare_of.Reads as bare-of-reads
+
+-- src/lib.rt:57:25
+bare-of-requires : tie.Need-bare-of-requires
+bare-of-requires c κs = search needs
+
+-- src/lib.rt:57:14
+bare-of-requires-2 : tie.Need-bare-of-requires-2
+bare-of-requires-2 c κs = search needs
+
+-- src/lib.rt:58:25
+bare-of-requires-3 : tie.Need-bare-of-requires-3
+bare-of-requires-3 c κs = search needs
+
+-- src/lib.rt:58:14
+bare-of-requires-4 : tie.Need-bare-of-requires-4
+bare-of-requires-4 c κs = search needs
+
+-- src/lib.rt:62:14
+bare-of-requires-5 : tie.Need-bare-of-requires-5
+bare-of-requires-5 c κs = search needs
+
+-- src/lib.rt:53:1
+returns : tie.Need-returns
+returns c = ?
+
+-- src/lib.rt:53:1
+returns-2 : tie.Need-returns-2
+returns-2 c = ?
+
+-- src/lib.rt:53:1
+returns-3 : tie.Need-returns-3
+returns-3 c = ?
+
+-- src/lib.rt:53:1
+returns-4 : tie.Need-returns-4
+returns-4 c = ?
+
+-- src/lib.rt:53:1
+returns-5 : tie.Need-returns-5
+returns-5 c = ?
+
+-- src/lib.rt:53:1
+returns-6 : tie.Need-returns-6
+returns-6 c = ?
+
+-- src/lib.rt:53:1
+returns-7 : tie.Need-returns-7
+returns-7 c = ?
+
+pub of-kind-spec : {M : Type 1} → statement M
+of-kind-spec =
+    tie.close
+    (tie.spec
+    bare-of-requires
+    bare-of-requires-2
+    bare-of-requires-3
+    bare-of-requires-4
+    bare-of-requires-5
+    returns
+    returns-2
+    returns-3
+    returns-4
+    returns-5
+    returns-6
+    returns-7)

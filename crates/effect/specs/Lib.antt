@@ -1,0 +1,4 @@
+pub mod Node
+pub mod Meaning
+pub mod Refusals
+pub mod WellFormed

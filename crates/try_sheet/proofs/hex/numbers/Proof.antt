@@ -1,0 +1,85 @@
+use Prim.Native.Nat.{_≤_, _-_}
+use borrow.Author.Needs.{needs}
+use Rattle.try_sheet.proofs.hex.numbers.Statement.{statement}
+use Rattle.try_sheet.proofs.hex.numbers.Tie as tie
+use Rattle.try_sheet.proofs.hex.numbers.Reads as reads
+use Rattle.try_sheet.proofs.hex.numbers.Lts as lts
+use Rattle.try_sheet.proofs.hex.byte.Reads as byte-reads
+use Rattle.try_sheet.proofs.hex.four.Reads as four-reads
+
+abbrev Inv-loop : tie.InvT-loop
+Inv-loop bytes table₀ j₀ table j = j ≤ 300
+
+abbrev μ-loop : tie.MeasureT-loop
+μ-loop bytes table₀ j₀ table j = 300 - j
+
+loop-holds : tie.Need-loop-holds Inv-loop μ-loop
+loop-holds c = search needs
+
+mul-i : tie.Need-mul-i Inv-loop μ-loop
+mul-i c = search needs
+
+byte-requires : tie.Need-byte-requires Inv-loop μ-loop
+byte-requires c κs = search needs
+
+add-byte : tie.Need-add-byte Inv-loop μ-loop
+add-byte c = search needs
+
+byte-requires-2 : tie.Need-byte-requires-2 Inv-loop μ-loop
+byte-requires-2 c κs = search needs
+
+add-byte-2 : tie.Need-add-byte-2 Inv-loop μ-loop
+add-byte-2 c = search needs
+
+byte-requires-3 : tie.Need-byte-requires-3 Inv-loop μ-loop
+byte-requires-3 c κs = search needs
+
+add-byte-3 : tie.Need-add-byte-3 Inv-loop μ-loop
+add-byte-3 c = search needs
+
+byte-requires-4 : tie.Need-byte-requires-4 Inv-loop μ-loop
+byte-requires-4 c κs = search needs
+
+four-requires : tie.Need-four-requires Inv-loop μ-loop
+four-requires c κs = search needs
+
+mul-table : tie.Need-mul-table Inv-loop μ-loop
+mul-table c = search needs
+
+element-write-table : tie.Need-element-write-table Inv-loop μ-loop
+element-write-table c = search needs
+
+add-j : tie.Need-add-j Inv-loop μ-loop
+add-j c = search needs
+
+loop-less : tie.Need-loop-less Inv-loop μ-loop
+loop-less c = search needs
+
+loop-again : tie.Need-loop-again Inv-loop μ-loop
+loop-again c = search needs
+
+returns : tie.Need-returns Inv-loop μ-loop
+returns c = search needs
+
+pub numbers-spec : {M : Type 1} → statement M
+numbers-spec =
+    tie.close
+    (tie.spec
+    Inv-loop
+    μ-loop
+    loop-holds
+    mul-i
+    byte-requires
+    add-byte
+    byte-requires-2
+    add-byte-2
+    byte-requires-3
+    add-byte-3
+    byte-requires-4
+    four-requires
+    mul-table
+    element-write-table
+    add-j
+    loop-less
+    loop-again
+    returns)
