@@ -208,7 +208,7 @@ class Vectors:
     def decode(self, number, expect=None):
         refusal = 7 if is_7(number) else 0
         kind, a, b = fields(number)
-        answer = 'none' if refusal else '%s %d %d number %08x' % (KINDS[kind], a, b, number)
+        answer = 'none' if refusal else '%d %d %d number %08x' % (kind, a, b, number)
         self.record('decode', '03 %08x' % number, answer, refusal, expect)
 
     def number(self, kind, a, b, expect=None):

@@ -4,7 +4,7 @@ use mathlib.Core.Path.{_≡_}
 use mathlib.Core.Bool.{Bool, true, false, cond, not, _||_}
 use mathlib.Core.List.{List, [], _∷_}
 use lib.Dec.{ltb, leb, eqb}
-use lib.ListN.{length, getD}
+use lib.ListN.{length}
 use Rattle.bits.specs.Bit.{within}
 use Rattle.effect.specs.declared.Node.{Node}
 use Rattle.effect.specs.declared.Node.the-variants.{Nil, Empty, Instant, Seq, Choice, Repeat}
@@ -12,7 +12,7 @@ use Rattle.effect.specs.declared.Decoded.{Decoded}
 use Rattle.effect.specs.declared.Decoded.the-variants.{Is, None}
 use Rattle.effect.specs.declared.Checked.{Checked}
 use Rattle.effect.specs.declared.Checked.the-variants.{Accepted, Refused}
-use Rattle.effect.specs.Node.{decodings, nodesOf}
+use Rattle.effect.specs.Node.{decodings, entry, nodesOf}
 use Rattle.effect.specs.Meaning.{at}
 
 -- A refusal is its number; 0 is none. A row of the table: its number, exactly when it applies.
@@ -91,13 +91,17 @@ unfoldable pub instants : List Node → ℕ → ℕ
 instants t zero = 0
 instants t (suc i) = instants t i + oneIfInstant (at t i)
 
+-- 7 to 10 of node i of a table
+unfoldable pub refusalAt : ℕ → List Decoded → ℕ → ℕ
+refusalAt s ds i = nodeRefusal s i (claimed (nodesOf ds) i) (entry ds i)
+
 -- 7 to 12 of a whole table
 unfoldable pub tableRefusal : ℕ → List Decoded → ℕ
 tableRefusal s ds =
     let t = nodesOf ds in
     let n = length ds in
     lowest
-    (lowestNode (λ i. nodeRefusal s i (claimed t i) (getD ds i None)) n
+    (lowestNode (refusalAt s ds) n
     -- "a node other than the last is nobody's child"
     ∷ rule 11 (someBelow (n - 1) (λ c. not (claimed t n c)))
     -- "more than 63 instants"

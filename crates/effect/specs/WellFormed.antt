@@ -4,13 +4,13 @@ use Prim.Native.Nat.{ℕ, suc, _≤_, _<_}
 use mathlib.Core.Path.{_≡_}
 use mathlib.Core.Logic.{_⊎_, _≢_}
 use mathlib.Core.List.{List}
-use lib.ListN.{length, getD}
+use lib.ListN.{length}
 use Rattle.bits.specs.Bit.{Mem}
 use Rattle.effect.specs.declared.Node.{Node}
 use Rattle.effect.specs.declared.Node.the-variants.{Nil, Empty, Instant, Seq, Choice, Repeat}
 use Rattle.effect.specs.declared.Decoded.{Decoded}
 use Rattle.effect.specs.declared.Decoded.the-variants.{Is, None}
-use Rattle.effect.specs.Node.{nodesOf}
+use Rattle.effect.specs.Node.{entry, nodesOf}
 use Rattle.effect.specs.Meaning.{at}
 use Rattle.effect.specs.Refusals.{instants}
 
@@ -37,5 +37,5 @@ pub record WellFormed (s : ℕ) (ds : List Decoded) : Type 0 where
   pub signals : s ≤ 8
   pub some : 1 ≤ length ds
   pub size : length ds ≤ 255
-  pub nodes : (i : ℕ) → i < length ds → getD ds i None ≢ None
+  pub nodes : (i : ℕ) → entry ds i ≢ None
   pub formed : Formed s (nodesOf ds)

@@ -1,4 +1,7 @@
 // A record as bytes: its line's hexadecimal digits, and the numbers that the bytes make.
+ghost use mathlib.Core.Path.{_≡_};
+ghost use lib.ListN.{length};
+ghost use Rattle.io.specs.Counts.{Counts};
 
 // What `digits` answers where a line is no record. It is odd, as is the count of digits of a line that
 // ends in half a byte.
@@ -58,6 +61,20 @@ pub fn digits(line: &[u8], bytes: &mut [u8]) -> usize {
     k
 }
 
+// Room for a record's bytes.
+pub fn room() -> [u8; 2048]
+    ensures { λ r. ⌜ 2048 ≡ length r ⌝ }
+{
+    [0; 2048]
+}
+
+// n, or the number of bytes where that is less.
+pub fn within(n: usize, bytes: &[u8]) -> usize
+    ensures { λ r. ⌜ Counts r (now (bytes .entry)) ⌝ }
+{
+    if n < bytes.len() { n } else { bytes.len() }
+}
+
 // Byte i, 0 past the end.
 pub fn byte(bytes: &[u8], i: usize) -> u8 {
     if i < bytes.len() { bytes[i] } else { 0 }
@@ -73,9 +90,18 @@ pub fn four(a: u8, b: u8, c: u8, d: u8) -> u32 {
     (pair(a, b) as u32) * 65536 + pair(c, d) as u32
 }
 
-// Puts the numbers of four bytes each from the front of `bytes` into the table, and 0 for what is
-// not there.
-pub fn numbers(bytes: &[u8], table: &mut [u32; 300]) {
+// As many nodes as a record may ask for. Document 01's largest table has 255.
+pub fn table() -> [u32; 300]
+    ensures { λ r. ⌜ 300 ≡ length r ⌝ }
+{
+    [0; 300]
+}
+
+// The numbers of four bytes each from the front of `bytes`, then zeros.
+pub fn numbers(bytes: &[u8]) -> [u32; 300]
+    ensures { λ r. ⌜ 300 ≡ length r ⌝ }
+{
+    let mut table = table();
     let mut j: usize = 0;
     while j < 300 {
         let i = 4 * j;
@@ -87,4 +113,5 @@ pub fn numbers(bytes: &[u8], table: &mut [u32; 300]) {
         );
         j += 1;
     }
+    table
 }

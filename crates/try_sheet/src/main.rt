@@ -11,8 +11,8 @@
 // Entry k of a lent table is c0de0000 + k beforehand, and each byte of a lent output is ee. A line
 // that begins with '#' is printed as it is. The first record that is none ends the run.
 mod hex;
+mod print;
 mod record;
-mod text;
 
 ghost use Prim.Native.Nat.{_≤_};
 ghost use lib.ListN.{length};
@@ -32,25 +32,12 @@ fn line_end(input: &[u8], from: usize) -> usize
     i
 }
 
-// Prints the answer to one line. False where the line is no record.
-fn answer(line: &[u8]) -> bool {
-    let mut out = io::buffer();
-    let n = record::answer(line, &mut out);
-    if n == 0 {
-        io::write_all(1, b"bad record\n");
-        return false;
-    }
-    let k = text::within(n, &out);
-    io::write_all(1, &out[..k]);
-    true
-}
-
-// Answers line after line.
+// Answers line after line, up to the first that is no record.
 fn answer_all(input: &[u8]) {
     let mut from: usize = 0;
     while from < input.len() {
         let end = line_end(input, from);
-        let is_record = answer(&input[from..end]);
+        let is_record = record::answer(&input[from..end]);
         if !is_record {
             return;
         }

@@ -1,7 +1,7 @@
-// A record's call, and the text of its answer. Each function answers how long the text is, and 0
-// where the record is none.
+// A record's call, and the line of its answer. Each function says whether the record is one; where it
+// is none, nothing is printed.
 use crate::hex;
-use crate::text;
+use crate::print;
 use effect::Checked;
 use effect::Decoded;
 use effect::Node;
@@ -12,23 +12,11 @@ ghost use mathlib.Core.Path.{_≡_};
 ghost use lib.ListN.{length};
 ghost use Rattle.io.specs.Counts.{Counts};
 
-// The most that a record may ask for. Document 01's largest are 255 nodes and 608 bytes.
-fn table() -> [u32; 300]
-    ensures { λ r. ⌜ 300 ≡ length r ⌝ }
-{
-    [0; 300]
-}
-
+// As many bytes as a record may ask for. Document 01's longest sheet has 608.
 fn output() -> [u8; 700]
     ensures { λ r. ⌜ 700 ≡ length r ⌝ }
 {
     [0xee; 700]
-}
-
-fn line() -> [u8; 2048]
-    ensures { λ r. ⌜ 2048 ≡ length r ⌝ }
-{
-    [0; 2048]
 }
 
 // n, or the table's length where that is less.
@@ -43,151 +31,161 @@ fn mark(table: &mut [u32]) {
     let mut k: u32 = 0;
     let mut i: usize = 0;
     while i < table.len() {
-        table[i] = 0xC0DE0000 + k % 65536;
+        table[i] = 0xC0DE0000 + k;
         k = (k + 1) % 65536;
         i += 1;
     }
 }
 
-fn put_reading(out: &mut [u8], answer: Reading) -> usize {
+fn print_reading(answer: Reading) {
     match answer {
-        Reading::Accepted(s, n) => text::put_two(out, b"read accepted ", s as u64, n as u64),
-        Reading::Refused(why) => text::put_one(out, b"read refused ", why.number as u64),
+        Reading::Accepted(s, n) => {
+            print::accepted(s as u64);
+            print::decimal(n as u64);
+        }
+        Reading::Refused(why) => print::refused(why),
     }
 }
 
-fn read_to(sheet: &[u8], table: &mut [u32], out: &mut [u8]) -> usize {
+fn read_to(sheet: &[u8], table: &mut [u32]) {
     mark(table);
     let answer = sheet::read(sheet, table);
-    let at = put_reading(out, answer);
-    let named = text::put_word(out, at, b" table");
-    text::put_numbers(out, named, table)
+    print::word(b"read");
+    print_reading(answer);
+    print::word(b" table");
+    print::numbers(table);
 }
 
 // 00 LLLL TTTT sheet
-fn read(record: &[u8], out: &mut [u8]) -> usize {
+fn read(record: &[u8]) -> bool {
     let length = hex::pair(hex::byte(record, 1), hex::byte(record, 2)) as usize;
     let asked = hex::pair(hex::byte(record, 3), hex::byte(record, 4)) as usize;
     if record.len() < 5 {
-        return 0;
+        return false;
     }
     if record.len() - 5 != length {
-        return 0;
+        return false;
     }
-    let mut table = table();
+    let mut table = hex::table();
     let lent = entries(asked, &table);
     if lent < asked {
-        return 0;
+        return false;
     }
-    read_to(&record[5..], &mut table[..lent], out)
+    read_to(&record[5..], &mut table[..lent]);
+    true
 }
 
-fn put_writing(out: &mut [u8], answer: Writing) -> usize {
+fn print_writing(answer: Writing) {
     match answer {
-        Writing::Accepted(length) => text::put_one(out, b"write accepted ", length as u64),
-        Writing::Refused(why) => text::put_one(out, b"write refused ", why.number as u64),
+        Writing::Accepted(length) => print::accepted(length as u64),
+        Writing::Refused(why) => print::refused(why),
     }
 }
 
-fn write_to(s: u8, nodes: &[u32], sheet: &mut [u8], out: &mut [u8]) -> usize {
+fn write_to(s: u8, nodes: &[u32], sheet: &mut [u8]) {
     let answer = sheet::write(s, nodes, sheet);
-    let at = put_writing(out, answer);
-    let named = text::put_word(out, at, b" out");
-    text::put_bytes(out, named, sheet)
+    print::word(b"write");
+    print_writing(answer);
+    print::word(b" out");
+    print::bytes(sheet);
 }
 
 // 01 SS NNNN OOOO nodes
-fn write(record: &[u8], out: &mut [u8]) -> usize {
+fn write(record: &[u8]) -> bool {
     let count = hex::pair(hex::byte(record, 2), hex::byte(record, 3)) as usize;
     let asked = hex::pair(hex::byte(record, 4), hex::byte(record, 5)) as usize;
     if record.len() < 6 {
-        return 0;
+        return false;
     }
     if record.len() - 6 != 4 * count {
-        return 0;
+        return false;
     }
-    let mut nodes = table();
-    hex::numbers(&record[6..], &mut nodes);
+    let nodes = hex::numbers(&record[6..]);
     let n = entries(count, &nodes);
     if n < count {
-        return 0;
+        return false;
     }
     let mut sheet = output();
-    let lent = text::within(asked, &sheet);
+    let lent = hex::within(asked, &sheet);
     if lent < asked {
-        return 0;
+        return false;
     }
-    write_to(hex::byte(record, 1), &nodes[..n], &mut sheet[..lent], out)
+    write_to(hex::byte(record, 1), &nodes[..n], &mut sheet[..lent]);
+    true
 }
 
-fn put_checked(out: &mut [u8], answer: Checked) -> usize {
+fn print_checked(answer: Checked) {
     match answer {
-        Checked::Accepted(instants) => text::put_one(out, b"check accepted ", instants as u64),
-        Checked::Refused(why) => text::put_one(out, b"check refused ", why.number as u64),
+        Checked::Accepted(instants) => print::accepted(instants as u64),
+        Checked::Refused(why) => print::refused(why),
     }
 }
 
 // 02 SS NNNN nodes
-fn check(record: &[u8], out: &mut [u8]) -> usize {
+fn check(record: &[u8]) -> bool {
     let count = hex::pair(hex::byte(record, 2), hex::byte(record, 3)) as usize;
     if record.len() < 4 {
-        return 0;
+        return false;
     }
     if record.len() - 4 != 4 * count {
-        return 0;
+        return false;
     }
-    let mut nodes = table();
-    hex::numbers(&record[4..], &mut nodes);
+    let nodes = hex::numbers(&record[4..]);
     let n = entries(count, &nodes);
     if n < count {
-        return 0;
+        return false;
     }
     let answer = effect::check(hex::byte(record, 1), &nodes[..n]);
-    put_checked(out, answer)
+    print::word(b"check");
+    print_checked(answer);
+    true
 }
 
-fn put_node(out: &mut [u8], node: Node) -> usize {
+// A kind, by document 01's number, and the two fields.
+fn print_fields(kind: u64, a: u16, b: u16) {
+    print::decimal(kind);
+    print::decimal(a as u64);
+    print::decimal(b as u64);
+}
+
+fn print_node(node: Node) {
     match node {
-        Node::Nil => text::put_two(out, b"decode nil ", 0, 0),
-        Node::Empty => text::put_two(out, b"decode empty ", 0, 0),
-        Node::Instant(a, b) => text::put_two(out, b"decode instant ", a as u64, b as u64),
-        Node::Seq(a, b) => text::put_two(out, b"decode sequence ", a as u64, b as u64),
-        Node::Choice(a, b) => text::put_two(out, b"decode choice ", a as u64, b as u64),
-        Node::Repeat(a) => text::put_two(out, b"decode repetition ", a as u64, 0),
+        Node::Nil => print_fields(0, 0, 0),
+        Node::Empty => print_fields(1, 0, 0),
+        Node::Instant(a, b) => print_fields(2, a, b),
+        Node::Seq(a, b) => print_fields(3, a, b),
+        Node::Choice(a, b) => print_fields(4, a, b),
+        Node::Repeat(a) => print_fields(5, a, 0),
     }
 }
 
-fn put_numbered(out: &mut [u8], at: usize, answer: Numbered) -> usize {
-    let named = text::put_word(out, at, b"number ");
+fn print_numbered(answer: Numbered) {
     match answer {
-        Numbered::Is(x) => text::put_number(out, named, x),
-        Numbered::None => text::put_word(out, named, b"none"),
+        Numbered::Is(x) => print::number(x),
+        Numbered::None => print::none(),
     }
 }
 
-fn put_decoded(out: &mut [u8], answer: Decoded) -> usize {
+fn print_decoded(answer: Decoded) {
     match answer {
         Decoded::Is(node) => {
-            let at = put_node(out, node);
-            let space = text::put(out, at, b' ');
-            put_numbered(out, space, effect::number(node))
+            print_node(node);
+            print::word(b" number");
+            print_numbered(effect::number(node));
         }
-        Decoded::None => text::put_word(out, 0, b"decode none"),
+        Decoded::None => print::none(),
     }
 }
 
 // 03 XXXXXXXX
-fn decode(record: &[u8], out: &mut [u8]) -> usize {
+fn decode(record: &[u8]) -> bool {
     if record.len() != 5 {
-        return 0;
+        return false;
     }
-    let x = hex::four(
-        hex::byte(record, 1),
-        hex::byte(record, 2),
-        hex::byte(record, 3),
-        hex::byte(record, 4),
-    );
-    put_decoded(out, effect::decode(x))
+    let x = hex::four(hex::byte(record, 1), hex::byte(record, 2), hex::byte(record, 3), hex::byte(record, 4));
+    print::word(b"decode");
+    print_decoded(effect::decode(x));
+    true
 }
 
 fn node_of(kind: u8, a: u16, b: u16) -> Node {
@@ -202,42 +200,52 @@ fn node_of(kind: u8, a: u16, b: u16) -> Node {
 }
 
 // 04 KK AAAA BBBB
-fn number(record: &[u8], out: &mut [u8]) -> usize {
+fn number(record: &[u8]) -> bool {
     if record.len() != 6 {
-        return 0;
+        return false;
     }
     let a = hex::pair(hex::byte(record, 2), hex::byte(record, 3));
     let b = hex::pair(hex::byte(record, 4), hex::byte(record, 5));
     let node = node_of(hex::byte(record, 1), a, b);
-    put_numbered(out, 0, effect::number(node))
+    print::word(b"number");
+    print_numbered(effect::number(node));
+    true
 }
 
-fn call(record: &[u8], out: &mut [u8]) -> usize {
+fn call(record: &[u8]) -> bool {
     match hex::byte(record, 0) {
-        0 => read(record, out),
-        1 => write(record, out),
-        2 => check(record, out),
-        3 => decode(record, out),
-        4 => number(record, out),
-        _ => 0,
+        0 => read(record),
+        1 => write(record),
+        2 => check(record),
+        3 => decode(record),
+        4 => number(record),
+        _ => false,
     }
 }
 
-// The text of the answer to a line, its line feed included.
-pub fn answer(text: &[u8], out: &mut [u8]) -> usize {
-    if hex::byte(text, 0) == b'#' {
-        let at = text::put_word(out, 0, text);
-        return text::put(out, at, b'\n');
-    }
-    let mut bytes = line();
-    let k = hex::digits(text, &mut bytes);
+// The call of a line that is a record.
+fn call_line(line: &[u8]) -> bool {
+    let mut bytes = hex::room();
+    let k = hex::digits(line, &mut bytes);
     if k % 2 == 1 {
-        return 0;
+        return false;
     }
-    let n = text::within(k / 2, &bytes);
-    let at = call(&bytes[..n], out);
-    if at == 0 {
-        return 0;
+    let n = hex::within(k / 2, &bytes);
+    call(&bytes[..n])
+}
+
+// Prints the answer to a line, and says whether to go on.
+pub fn answer(line: &[u8]) -> bool {
+    if hex::byte(line, 0) == b'#' {
+        print::word(line);
+        print::word(b"\n");
+        return true;
     }
-    text::put(out, at, b'\n')
+    let is_record = call_line(line);
+    if is_record {
+        print::word(b"\n");
+    } else {
+        print::word(b"bad record\n");
+    }
+    is_record
 }

@@ -1,3 +1,5 @@
+use borrow.Author.Tests.{lt-ltb, le-ltb}
+use Rattle.effect.specs.Node.{decodeOf}
 use borrow.Author.Needs.{needs}
 use Rattle.effect.proofs.decode.Statement.{statement}
 use Rattle.effect.proofs.decode.Tie as tie
@@ -19,11 +21,13 @@ of-kind-requires c κs = search needs
 
 -- src/lib.rt:68:1
 returns : tie.Need-returns
-returns c = ?
+unfolding decodeOf
+returns c = simp (lt-ltb _ _ (c .before .if1 .taken)) (c .of-kind .ensures)
 
 -- src/lib.rt:68:1
 returns-2 : tie.Need-returns-2
-returns-2 c = ?
+unfolding decodeOf
+returns-2 c = simp (le-ltb _ _ (c .if1 .left))
 
 pub decode-spec : {M : Type 1} → statement M
 decode-spec = tie.close (tie.spec cast-of-kind cast-of-kind-2 of-kind-requires returns returns-2)

@@ -1,3 +1,5 @@
+use mathlib.Core.Path.{ap, sym, _∙_}
+use Rattle.effect.specs.Node.{numberOf}
 use borrow.Author.Needs.{needs}
 use Rattle.effect.proofs.number.Statement.{statement}
 use Rattle.effect.proofs.number.Tie as tie
@@ -55,27 +57,33 @@ of-fields-requires-6 c κs = search needs
 
 -- src/lib.rt:93:1
 returns : tie.Need-returns
-returns c = ?
+unfolding numberOf
+returns c = c .of-fields .ensures ∙ sym (ap numberOf (c .before .enum-told .given .1))
 
 -- src/lib.rt:93:1
 returns-2 : tie.Need-returns-2
-returns-2 c = ?
+unfolding numberOf
+returns-2 c = c .of-fields2 .ensures ∙ sym (ap numberOf (c .before .enum-told2 .given .1))
 
 -- src/lib.rt:93:1
 returns-3 : tie.Need-returns-3
-returns-3 c = ?
+unfolding numberOf
+returns-3 c = c .of-fields3 .ensures ∙ sym (ap numberOf (c .before .before .n .given .1))
 
 -- src/lib.rt:93:1
 returns-4 : tie.Need-returns-4
-returns-4 c = ?
+unfolding numberOf
+returns-4 c = c .of-fields4 .ensures ∙ sym (ap numberOf (c .before .before .n2 .given .1))
 
 -- src/lib.rt:93:1
 returns-5 : tie.Need-returns-5
-returns-5 c = ?
+unfolding numberOf
+returns-5 c = c .of-fields5 .ensures ∙ sym (ap numberOf (c .before .before .n3 .given .1))
 
 -- src/lib.rt:93:1
 returns-6 : tie.Need-returns-6
-returns-6 c = ?
+unfolding numberOf
+returns-6 c = c .of-fields6 .ensures ∙ sym (ap numberOf (c .before .before .n4 .given .1))
 
 pub number-spec : {M : Type 1} → statement M
 number-spec =

@@ -1,10 +1,9 @@
+-- `line_end` meets its contract, which the loop keeps of i. Assumes nothing.
 use Prim.Native.Nat.{_≤_, _-_}
 use lib.ListN.{length}
 use borrow.Author.Needs.{needs}
 use Rattle.try_sheet.proofs.line_end.Statement.{statement}
 use Rattle.try_sheet.proofs.line_end.Tie as tie
-use Rattle.try_sheet.proofs.line_end.Reads as reads
-use Rattle.try_sheet.proofs.line_end.Lts as lts
 
 abbrev Inv-loop : tie.InvT-loop
 Inv-loop input from i₀ i = (from ≤ i) × (i ≤ length input)

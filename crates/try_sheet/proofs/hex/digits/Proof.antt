@@ -1,12 +1,10 @@
+-- `hex::digits` is safe and ends. The loop keeps the number of bytes; the measure is what is left of the line. Assumes nothing.
 use Prim.Native.Nat.{_-_}
 use mathlib.Core.Path.{_≡_}
 use lib.ListN.{length}
 use borrow.Author.Needs.{needs}
 use Rattle.try_sheet.proofs.hex.digits.Statement.{statement}
 use Rattle.try_sheet.proofs.hex.digits.Tie as tie
-use Rattle.try_sheet.proofs.hex.digits.Reads as reads
-use Rattle.try_sheet.proofs.hex.digits.Lts as lts
-use Rattle.try_sheet.proofs.hex.take.Reads as take-reads
 
 abbrev Inv-loop : tie.InvT-loop
 Inv-loop line bytes₀ k₀ i₀ bytes k i = length bytes ≡ length bytes₀

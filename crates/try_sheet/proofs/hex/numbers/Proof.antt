@@ -1,17 +1,19 @@
+-- `hex::numbers` meets its contract: the loop keeps the table's length. Assumes nothing.
 use Prim.Native.Nat.{_≤_, _-_}
+use mathlib.Core.Path.{_≡_}
+use lib.ListN.{length}
 use borrow.Author.Needs.{needs}
 use Rattle.try_sheet.proofs.hex.numbers.Statement.{statement}
 use Rattle.try_sheet.proofs.hex.numbers.Tie as tie
-use Rattle.try_sheet.proofs.hex.numbers.Reads as reads
-use Rattle.try_sheet.proofs.hex.numbers.Lts as lts
-use Rattle.try_sheet.proofs.hex.byte.Reads as byte-reads
-use Rattle.try_sheet.proofs.hex.four.Reads as four-reads
 
 abbrev Inv-loop : tie.InvT-loop
-Inv-loop bytes table₀ j₀ table j = j ≤ 300
+Inv-loop bytes table₀ j₀ table j = (j ≤ 300) × (300 ≡ length table)
 
 abbrev μ-loop : tie.MeasureT-loop
 μ-loop bytes table₀ j₀ table j = 300 - j
+
+table-requires : tie.Need-table-requires Inv-loop μ-loop
+table-requires c κs = search needs
 
 loop-holds : tie.Need-loop-holds Inv-loop μ-loop
 loop-holds c = search needs
@@ -46,8 +48,8 @@ four-requires c κs = search needs
 mul-table : tie.Need-mul-table Inv-loop μ-loop
 mul-table c = search needs
 
-element-write-table : tie.Need-element-write-table Inv-loop μ-loop
-element-write-table c = search needs
+array-write-table : tie.Need-array-write-table Inv-loop μ-loop
+array-write-table c = search needs
 
 add-j : tie.Need-add-j Inv-loop μ-loop
 add-j c = search needs
@@ -67,6 +69,7 @@ numbers-spec =
     (tie.spec
     Inv-loop
     μ-loop
+    table-requires
     loop-holds
     mul-i
     byte-requires
@@ -78,7 +81,7 @@ numbers-spec =
     byte-requires-4
     four-requires
     mul-table
-    element-write-table
+    array-write-table
     add-j
     loop-less
     loop-again

@@ -1,4 +1,4 @@
--- `record::entries` meets its contract: a part of n elements has n of them.
+-- `record::entries` meets its contract: a part of n elements has n of them. Assumes nothing.
 use mathlib.Core.Path.{sym}
 use native.Mathlib.Omega.{arith}
 use lib.Seq.{length-take-le}

@@ -1,11 +1,10 @@
+-- `record::mark` is safe and ends. The loop keeps the table's length and k in range; the measure is the number of entries that are left. Assumes nothing.
 use Prim.Native.Nat.{_<_, _-_}
 use mathlib.Core.Path.{_≡_}
 use lib.ListN.{length}
 use borrow.Author.Needs.{needs}
 use Rattle.try_sheet.proofs.record.mark.Statement.{statement}
 use Rattle.try_sheet.proofs.record.mark.Tie as tie
-use Rattle.try_sheet.proofs.record.mark.Reads as reads
-use Rattle.try_sheet.proofs.record.mark.Lts as lts
 
 abbrev Inv-loop : tie.InvT-loop
 Inv-loop table₀ k₀ i₀ table k i = (length table ≡ length table₀) × (k < 65536)

@@ -1,9 +1,9 @@
--- `text::within` meets its contract: a part of n elements has n of them.
+-- `hex::within` meets its contract: a part of n elements has n of them. Assumes nothing.
 use mathlib.Core.Path.{sym}
 use native.Mathlib.Omega.{arith}
 use lib.Seq.{length-take-le}
-use Rattle.try_sheet.proofs.text.within.Statement.{statement}
-use Rattle.try_sheet.proofs.text.within.Tie as tie
+use Rattle.try_sheet.proofs.hex.within.Statement.{statement}
+use Rattle.try_sheet.proofs.hex.within.Tie as tie
 
 returns : tie.Need-returns
 returns c = (omega arith, sym (length-take-le _ _ (omega arith)))

@@ -1,0 +1,23 @@
+-- What stands in the header of a sheet: how large its numbers can be, and rule 5 as one field.
+use Prim.Native.Nat.{ℕ, _^_, _<_}
+use mathlib.Core.Path.{_≡_}
+use mathlib.Core.Bool.{not}
+use mathlib.Core.List.{List}
+use native.Mathlib.Omega.{arith}
+use lib.Dec.{eqb}
+use Rattle.sheet.specs.Bits.{each, field}
+use Rattle.sheet.specs.Sheet.{usedBits, fillingBits, signalsIn, countIn, fillingSet}
+use Rattle.sheet.proofs.Fields.{each-bits, field-lt, field-some}
+
+pub signals-lt : (sheet : List ℕ) → signalsIn sheet < 2 ^ 4
+unfolding signalsIn
+signals-lt sheet = field-lt (each 8 sheet) (each-bits 8 sheet (omega arith)) 0 4
+
+pub count-lt : (sheet : List ℕ) → countIn sheet < 2 ^ 8
+unfolding countIn
+count-lt sheet = field-lt (each 8 sheet) (each-bits 8 sheet (omega arith)) 4 8
+
+-- a filling bit is set exactly when the filling read as a number is not 0
+pub filling-field : (sheet : List ℕ) → fillingSet sheet ≡ not (eqb (field (each 8 sheet) (usedBits (countIn sheet)) (fillingBits (countIn sheet))) 0)
+unfolding fillingSet
+filling-field sheet = field-some (each 8 sheet) (each-bits 8 sheet (omega arith)) (usedBits (countIn sheet)) (fillingBits (countIn sheet))

@@ -1,0 +1,4 @@
+pub mod Fields
+pub mod Front
+pub mod SheetBits
+pub mod Header
