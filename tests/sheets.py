@@ -6,6 +6,7 @@ text of '0' and '1', and a refusal is looked for by its sentence, over the whole
 the program try_sheet must print is made here and never taken from the program.
 
     sheets.py named INPUT EXPECTED               the named vectors
+    sheets.py large INPUT EXPECTED               more of them, faults in large tables
     sheets.py random SEED COUNT INPUT EXPECTED   COUNT random records, the same for the same SEED
 
 A record is a line of hexadecimal digits (numbers big-endian, white space ignored):
@@ -269,10 +270,6 @@ def accepted(v):
         v.title('N = %d: %d bytes, all lent exactly' % (n, sheet_length(n)))
         v.read(sheet_of(3, chain(n)), n, 0)
         v.write(3, chain(n), sheet_length(n), 0)
-    v.title('N = 255: 608 bytes, 63 instants')
-    assert len(FULL) == 255 and len(sheet_of(8, FULL)) == 608
-    v.read(sheet_of(8, FULL), 255, 0)
-    v.write(8, FULL, 608, 0)
     v.title('what lies beyond the result stays')
     small = [instant(1, 2), instant(0, 3), sequence(1, 0)]
     v.read(sheet_of(2, small), 6, 0)
@@ -282,13 +279,10 @@ def accepted(v):
                     [instant(2 ** s - 1, 0), instant(0, 2 ** s - 1), choice(0, 1), instant(2 ** s - 1, 2 ** s - 1),
                      sequence(3, 2), repetition(4)], 0)
     v.all_three('nil alone', 0, [nil()], 0)
-    v.all_three('63 instants', 0, comb([instant(0, 0)] * 63), 0)
-    v.title('63 instants and 65 other leaves in 255 nodes: accepted')
-    v.check(8, FULL, 0)
 
 
 def lengths_and_lent(v):
-    """Refusals 1 to 6 and 13: what the sheet, its header and what is lent decide."""
+    """Refusals 1 to 6 and 13: the sheet's length, its header and filling, and what is lent."""
     sound = [instant(1, 0), repetition(0)]  # 50 bits in 7 bytes
     sheet = sheet_of(1, sound)
     v.title('1: sheet under 2 bytes; with any other fault it is still 1')
@@ -316,10 +310,6 @@ def lengths_and_lent(v):
     v.read(sheet_of(8, []), 0, 3)
     v.write(0, [], 700, 3)
     v.check(0, [], 3)
-    v.title('3: 256 nodes for the writer, though each is sound; also before 7, 12 and 13')
-    v.write(0, chain(255) + [repetition(254)], 700, 3)
-    v.check(0, [node(7)] * 256, 3)
-    v.write(0, [instant(0, 0)] * 256, 0, 3)
     v.title('3 before 4 and 5')
     v.read(bytes.fromhex('000000'), 2, 3)
     v.read(bytes.fromhex('0001'), 2, 3)
@@ -329,8 +319,6 @@ def lengths_and_lent(v):
         v.read(sheet[:length], 2, 4)
     v.read(sheet + b'\0', 2, 4)
     v.read(sheet + b'\0' * 600, 2, 4)
-    v.read(sheet_of(0, chain(255))[:607], 255, 4)
-    v.read(sheet_of(0, chain(255)) + b'\0', 255, 4)
     v.read(sheet_of(0, chain(4)) + b'\0', 4, 4)
     v.title('4 before 5, 6, 7')
     v.read(sheet_of(1, sound, '1') + b'\0', 2, 4)
@@ -342,7 +330,6 @@ def lengths_and_lent(v):
         fill = 8 * sheet_length(n) - (12 + 19 * n)
         for k in range(fill):
             v.read(sheet_of(0, chain(n), '0' * k + '1'), n, 5)
-    v.read(sheet_of(0, chain(255), '0' * 6 + '1'), 255, 5)
     v.title('5 before 6, 7, 8')
     v.read(sheet_of(1, sound, '1'), 1, 5)
     v.read(sheet_of(1, [node(6)], '1'), 1, 5)
@@ -351,31 +338,27 @@ def lengths_and_lent(v):
     v.read(sheet, 1, 6)
     v.read(sheet, 0, 6)
     v.read(sheet, 2, 0)
-    v.read(sheet_of(0, chain(255)), 254, 6)
-    v.title('6 before 7, 8, 9, 10, 11, 12')
+    v.title('6 before 7, 8, 9, 10, 11')
     v.read(sheet_of(0, [node(7)]), 0, 6)
     v.read(sheet_of(0, [instant(1, 0)]), 0, 6)
     v.read(sheet_of(0, [repetition(0)]), 0, 6)
     v.read(sheet_of(0, [nil(), sequence(0, 0)]), 1, 6)
     v.read(sheet_of(0, [nil(), nil()]), 1, 6)
-    v.read(sheet_of(0, comb([instant(0, 0)] * 64)), 126, 6)
     v.title('13: an output one byte short, or empty; exact is enough')
     for n in range(1, 10):
         v.write(0, chain(n), sheet_length(n) - 1, 13)
     v.write(0, chain(1), 0, 13)
     v.write(0, chain(1), 4, 0)
-    v.write(8, FULL, 607, 13)
-    v.title('each of 7 to 12 before 13')
+    v.title('each of 7 to 11 before 13')
     v.write(0, [node(7)], 3, 7)
     v.write(0, [instant(1, 0)], 3, 8)
     v.write(0, [repetition(0)], 3, 9)
     v.write(0, [nil(), sequence(0, 0)], 0, 10)
     v.write(0, [nil(), nil()], 0, 11)
-    v.write(0, comb([instant(0, 0)] * 64), 303, 12)
 
 
 def one_fault(v):
-    """Refusals 7 to 12, a single fault in the table."""
+    """Refusals 7 to 11, a single fault in the table."""
     for kind in (6, 7):
         for a, b in [(0, 0), (255, 255)]:
             v.all_three('kind %d' % kind, 0, [node(kind, a, b)], 7)
@@ -386,8 +369,6 @@ def one_fault(v):
         v.all_three('repetition with b = %d' % b, 0, [nil(), node(5, 0, b)], 7)
     for bit in range(19, 32):
         v.all_three('the number %08x of a sound node and bit %d' % (2 ** bit + empty(), bit), 0, [2 ** bit + empty()], 7)
-    v.title('the last of 255 nodes has kind 6: refusal 7')
-    v.read(sheet_of(0, chain(254) + [node(6)]), 255, 7)
     for s in range(8):
         for i in range(s, 8):
             v.title('s = %d, signal %d named present, then absent, then both' % (s, i))
@@ -410,17 +391,12 @@ def one_fault(v):
         v.all_three(word + ' whose b is claimed already', 0, [nil(), repetition(0), join(1, 0)], 10)
         v.all_three(word + ' whose b is the b of a lower one', 0, [nil(), nil(), join(0, 1), join(2, 1)], 10)
     v.all_three('a repetition whose child is claimed already', 0, [nil(), repetition(0), repetition(0)], 10)
-    v.title('the last of 255 nodes claims node 0, which is claimed already: refusal 10')
-    v.read(sheet_of(0, chain(254) + [repetition(0)]), 255, 10)
     v.all_three('an instant whose masks look like children', 8, [instant(0, 0), instant(0, 0), instant(0, 1), comb([nil()] * 2)[2],
                                                                sequence(2, 3)], 0)
     v.all_three('node 0 is nobody\'s child', 0, [nil(), nil()], 11)
     v.all_three('a middle node is nobody\'s child', 0, [nil(), nil(), repetition(0)], 11)
     v.all_three('the last but one is nobody\'s child', 0, [nil(), repetition(0), empty()], 11)
     v.all_three('a whole subtree is nobody\'s child', 0, [nil(), repetition(0), empty(), repetition(2)], 11)
-    v.all_three('64 instants', 0, comb([instant(0, 0)] * 64), 12)
-    v.title('128 instants: refusal 12')
-    v.read(sheet_of(1, comb([instant(1, 0)] * 128)), 255, 12)
 
 
 def two_faults(v):
@@ -448,14 +424,6 @@ def two_faults(v):
     v.all_three('8 before 11', 0, [nil(), nil(), bad_8], 8)
     v.all_three('9 before 11', 0, [nil(), nil(), repetition(2)], 9)
     v.all_three('10 before 11', 0, [nil(), nil(), sequence(1, 1)], 10)
-    v.title('7, 8, 9, 10 and 11 before 12')
-    many = comb([instant(0, 0)] * 64)
-    v.read(sheet_of(0, many + [bad_7]), 128, 7)
-    v.read(sheet_of(0, many + [bad_8]), 128, 8)
-    v.read(sheet_of(0, many + [repetition(127)]), 128, 9)
-    v.read(sheet_of(0, many + [repetition(0)]), 128, 10)
-    v.read(sheet_of(0, many + [instant(0, 0)]), 128, 11)
-    v.all_three('11 before 12, each instant alone', 0, [instant(0, 0)] * 64, 11)
 
 
 def single_nodes(v):
@@ -482,18 +450,65 @@ def single_nodes(v):
         v.number(5, a, 0, 7)
 
 
+def limits(v):
+    """The largest tables, and the first beyond them."""
+    v.title('N = 255: 608 bytes, 63 instants and 65 other leaves')
+    assert len(FULL) == 255 and len(sheet_of(8, FULL)) == 608
+    v.read(sheet_of(8, FULL), 255, 0)
+    v.write(8, FULL, 608, 0)
+    v.title('3: 256 nodes for the writer, though each is sound')
+    v.write(0, chain(255) + [repetition(254)], 700, 3)
+    v.all_three('63 instants', 0, comb([instant(0, 0)] * 63), 0)
+    v.all_three('64 instants', 0, comb([instant(0, 0)] * 64), 12)
+
+
+def large(v):
+    """Faults in large tables. They stand apart, since the interpreter is slow."""
+    v.title('63 instants in 255 nodes')
+    v.check(8, FULL, 0)
+    v.title('3: 256 nodes before 7, 8, 12 and 13')
+    v.check(0, chain(255) + [repetition(254)], 3)
+    v.check(0, [node(7)] * 256, 3)
+    v.write(0, [instant(1, 0)] * 256, 0, 3)
+    v.title('4, 5, 6, 13 at N = 255')
+    v.read(sheet_of(0, chain(255))[:607], 255, 4)
+    v.read(sheet_of(0, chain(255)) + b'\0', 255, 4)
+    for k in range(7):
+        v.read(sheet_of(0, chain(255), '0' * k + '1'), 255, 5)
+    v.read(sheet_of(0, chain(255)), 254, 6)
+    v.read(sheet_of(0, chain(255)), 256, 0)
+    v.write(8, FULL, 607, 13)
+    v.write(8, FULL, 609, 0)
+    v.title('the last of 255 nodes has 7, 8, 9, 10')
+    for last, refusal in [(node(6), 7), (instant(1, 0), 8), (repetition(254), 9), (repetition(0), 10)]:
+        v.read(sheet_of(0, chain(254) + [last]), 255, refusal)
+    many = comb([instant(0, 0)] * 64)  # 127 nodes
+    v.title('128 instants')
+    v.read(sheet_of(1, comb([instant(1, 0)] * 128)), 255, 12)
+    v.title('6 before 12, and 12 before 13')
+    v.read(sheet_of(0, many), 126, 6)
+    v.write(0, many, sheet_length(127) - 1, 12)
+    v.title('7, 8, 9, 10 and 11 before 12')
+    for last, refusal in [(node(6), 7), (instant(1, 0), 8), (repetition(127), 9), (repetition(0), 10), (instant(0, 0), 11)]:
+        v.read(sheet_of(0, many + [last]), 128, refusal)
+    v.all_three('11 before 12, each instant alone', 0, [instant(0, 0)] * 64, 11)
+
+
 def named():
     v = Vectors()
-    accepted(v)
-    lengths_and_lent(v)
-    one_fault(v)
-    two_faults(v)
-    single_nodes(v)
+    for section in (accepted, lengths_and_lent, one_fault, two_faults, single_nodes, limits):
+        section(v)
     for what, numbers in [('read', range(13)), ('write', [0, 2, 3, *range(7, 14)]), ('check', [0, 2, 3, *range(7, 13)])]:
         assert {n for w, n in v.seen if w == what} == set(numbers), what
     v.title('a record that says more than it has ends the run')
     v.input += ['00 0004 0001 001200', '03 00000000']
     v.expected.append('bad record')
+    return v
+
+
+def named_large():
+    v = Vectors()
+    large(v)
     return v
 
 
@@ -599,6 +614,8 @@ def random_vectors(seed, count):
 def main(words):
     if len(words) == 3 and words[0] == 'named':
         named().save(*words[1:])
+    elif len(words) == 3 and words[0] == 'large':
+        named_large().save(*words[1:])
     elif len(words) == 5 and words[0] == 'random':
         random_vectors(int(words[1]), int(words[2])).save(*words[3:])
     else:

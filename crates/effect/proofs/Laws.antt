@@ -9,7 +9,7 @@ use native.Mathlib.Nat.{eq-or-lt-of-le, le-of-suc-le-suc}
 use native.Mathlib.Decide.{ℕ-discrete}
 use native.Mathlib.Omega.{arith}
 use lib.Dec.{eqb, ltb, leb}
-use lib.ListN.{length, getD, set, length-map, List·getD-map}
+use lib.ListN.{length, getD, set, replicate, length-map, List·getD-map}
 use lib.Seq.{getD-set-same, getD-set-other}
 use borrow.Author.Tests.{eq-eqb, ne-eqb, eqb-true, leb-false, lt-ltb, le-ltb}
 use Rattle.effect.specs.declared.Node.{Node}
@@ -274,3 +274,18 @@ one-instant (Instant p n) = omega arith
 one-instant (Seq a b) = omega arith
 one-instant (Choice a b) = omega arith
 one-instant (Repeat a) = omega arith
+
+pub instants-le : (t : List Node) (i : ℕ) → instants t i ≤ i
+unfolding instants
+instants-le t zero = omega arith
+instants-le t (suc i) = omega (arith, instants-le t i, one-instant (at t i))
+
+-- nobody is claimed before the first node
+pub unclaimed : (n k : ℕ) → getD (replicate n false) k false ≡ false
+unclaimed zero k = refl
+unclaimed (suc n) zero = refl
+unclaimed (suc n) (suc k) = unclaimed n k
+
+pub none-refusal : (s : ℕ) (ds : List Decoded) (i : ℕ) → entry ds i ≡ None → 7 ≡ refusalAt s ds i
+unfolding refusalAt nodeRefusal
+none-refusal s ds i e = sym (ap (nodeRefusal s i (claimed (nodesOf ds) i)) e)

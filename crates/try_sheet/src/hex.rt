@@ -105,6 +105,9 @@ pub fn numbers(bytes: &[u8]) -> [u32; 300]
     let mut j: usize = 0;
     while j < 300 {
         let i = 4 * j;
+        if i >= bytes.len() {
+            return table;
+        }
         table[j] = four(
             byte(bytes, i),
             byte(bytes, i + 1),

@@ -161,8 +161,8 @@ fn print_node(node: Node) {
 
 fn print_numbered(answer: Numbered) {
     match answer {
-        Numbered::Is(x) => print::number(x),
-        Numbered::None => print::none(),
+        Numbered::Of(x) => print::number(x),
+        Numbered::Wide => print::none(),
     }
 }
 
@@ -182,7 +182,12 @@ fn decode(record: &[u8]) -> bool {
     if record.len() != 5 {
         return false;
     }
-    let x = hex::four(hex::byte(record, 1), hex::byte(record, 2), hex::byte(record, 3), hex::byte(record, 4));
+    let x = hex::four(
+        hex::byte(record, 1),
+        hex::byte(record, 2),
+        hex::byte(record, 3),
+        hex::byte(record, 4),
+    );
     print::word(b"decode");
     print_decoded(effect::decode(x));
     true

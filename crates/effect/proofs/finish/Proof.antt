@@ -1,3 +1,6 @@
+use mathlib.Core.Path.{sym, _∙_}
+use borrow.Author.Tests.{lt-ltb, le-ltb}
+use Rattle.effect.specs.Refusals.{checked, lowest}
 use borrow.Author.Needs.{needs}
 use Rattle.effect.proofs.finish.Statement.{statement}
 use Rattle.effect.proofs.finish.Tie as tie
@@ -15,15 +18,18 @@ some-unclaimed-requires c κs = search needs
 
 -- src/lib.rt:261:9
 returns : tie.Need-returns
-returns c = ?
+unfolding checked lowest
+returns c = simp (sym (c .before .some-unclaimed .ensures) ∙ c .if1 .taken)
 
 -- src/lib.rt:265:9
 returns-2 : tie.Need-returns-2
-returns-2 c = ?
+unfolding checked lowest
+returns-2 c = simp (sym (c .before .before .some-unclaimed .ensures) ∙ c .before .if1 .left, lt-ltb _ _ (c .if2 .taken))
 
 -- src/lib.rt:255:1
 returns-3 : tie.Need-returns-3
-returns-3 c = ?
+unfolding checked lowest
+returns-3 c = simp (sym (c .before .before .some-unclaimed .ensures) ∙ c .before .if1 .left, le-ltb _ _ (c .if2 .left))
 
 pub finish-spec : {M : Type 1} → statement M
 finish-spec =

@@ -46,8 +46,15 @@ unfolding headerRefusal lowest signalsIn countIn
 returns-4 c =
     let g = c .before .before in
     let f = g .before .before .before in
-    rw (← f .field-at .ensures, ← g .before .field-at2 .ensures, ← c .before .length-of .ensures,
-        le-ltb _ _ (f .before .if1 .left), le-ltb _ _ (g .before .before .if2 .left), ne-eqb _ _ (g .if3 .left), ne-eqb _ _ (c .if4 .taken))
+    rw (
+      ← f .field-at .ensures,
+      ← g .before .field-at2 .ensures,
+      ← c .before .length-of .ensures,
+      le-ltb _ _ (f .before .if1 .left),
+      le-ltb _ _ (g .before .before .if2 .left),
+      ne-eqb _ _ (g .if3 .left),
+      ne-eqb _ _ (c .if4 .taken),
+    )
 
 mul-used : tie.Need-mul-used
 mul-used c = omega (arith, small (c .before .before))
@@ -70,9 +77,18 @@ returns-5 c =
     let h = c .before in
     let g = h .before .before .before in
     let f = g .before .before .before in
-    rw (filling-field, ← f .field-at .ensures, ← g .before .field-at2 .ensures, ← h .before .before .length-of .ensures, ← h .field-at3 .ensures,
-        le-ltb _ _ (f .before .if1 .left), le-ltb _ _ (g .before .before .if2 .left), ne-eqb _ _ (g .if3 .left), eq-eqb _ _ (h .before .if4 .left),
-        ne-eqb _ _ (c .if5 .taken))
+    rw (
+      filling-field,
+      ← f .field-at .ensures,
+      ← g .before .field-at2 .ensures,
+      ← h .before .before .length-of .ensures,
+      ← h .field-at3 .ensures,
+      le-ltb _ _ (f .before .if1 .left),
+      le-ltb _ _ (g .before .before .if2 .left),
+      ne-eqb _ _ (g .if3 .left),
+      eq-eqb _ _ (h .before .if4 .left),
+      ne-eqb _ _ (c .if5 .taken),
+    )
 
 returns-6 : tie.Need-returns-6
 unfolding headerRefusal lowest signalsIn countIn
@@ -80,9 +96,19 @@ returns-6 c =
     let h = c .before .before in
     let g = h .before .before .before in
     let f = g .before .before .before in
-    rw (filling-field, ← f .field-at .ensures, ← g .before .field-at2 .ensures, ← h .before .before .length-of .ensures, ← h .field-at3 .ensures,
-        le-ltb _ _ (f .before .if1 .left), le-ltb _ _ (g .before .before .if2 .left), ne-eqb _ _ (g .if3 .left), eq-eqb _ _ (h .before .if4 .left),
-        eq-eqb _ _ (c .before .if5 .left), lt-ltb _ _ (c .if6 .taken))
+    rw (
+      filling-field,
+      ← f .field-at .ensures,
+      ← g .before .field-at2 .ensures,
+      ← h .before .before .length-of .ensures,
+      ← h .field-at3 .ensures,
+      le-ltb _ _ (f .before .if1 .left),
+      le-ltb _ _ (g .before .before .if2 .left),
+      ne-eqb _ _ (g .if3 .left),
+      eq-eqb _ _ (h .before .if4 .left),
+      eq-eqb _ _ (c .before .if5 .left),
+      lt-ltb _ _ (c .if6 .taken),
+    )
 
 returns-7 : tie.Need-returns-7
 unfolding headerRefusal lowest signalsIn countIn
@@ -90,9 +116,19 @@ returns-7 c =
     let h = c .before .before in
     let g = h .before .before .before in
     let f = g .before .before .before in
-    rw (filling-field, ← f .field-at .ensures, ← g .before .field-at2 .ensures, ← h .before .before .length-of .ensures, ← h .field-at3 .ensures,
-        le-ltb _ _ (f .before .if1 .left), le-ltb _ _ (g .before .before .if2 .left), ne-eqb _ _ (g .if3 .left), eq-eqb _ _ (h .before .if4 .left),
-        eq-eqb _ _ (c .before .if5 .left), le-ltb _ _ (c .if6 .left))
+    rw (
+      filling-field,
+      ← f .field-at .ensures,
+      ← g .before .field-at2 .ensures,
+      ← h .before .before .length-of .ensures,
+      ← h .field-at3 .ensures,
+      le-ltb _ _ (f .before .if1 .left),
+      le-ltb _ _ (g .before .before .if2 .left),
+      ne-eqb _ _ (g .if3 .left),
+      eq-eqb _ _ (h .before .if4 .left),
+      eq-eqb _ _ (c .before .if5 .left),
+      le-ltb _ _ (c .if6 .left),
+    )
 
 pub header-refusal-spec : {M : Type 1} → statement M
 header-refusal-spec =

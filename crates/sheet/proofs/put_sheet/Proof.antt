@@ -46,9 +46,11 @@ loop-less c = search needs
 loop-again : tie.Need-loop-again Inv-loop μ-loop
 loop-again c =
     let l = c .before .before in
-    let a = l .before .before .before .before .before .args in
-    (search needs, simp length-set (l .loop .inv .1),
-    front-field (sheetBits (a .s) (a .nodes .now)) 0 8 (a .out .now) (l .loop .out) (l .loop .k) (8 * l .loop .k) (c .sheet-byte .result) (omega arith) (l .loop .inv .2) (omega arith) (c .sheet-byte .ensures))
+    let a = l .before .before .before .before .before .args in (
+      search needs,
+      simp length-set (l .loop .inv .1),
+      front-field (sheetBits (a .s) (a .nodes .now)) 0 8 (a .out .now) (l .loop .out) (l .loop .k) (8 * l .loop .k) (c .sheet-byte .result) (omega arith) (l .loop .inv .2) (omega arith) (c .sheet-byte .ensures),
+    )
 
 same-length : tie.Need-same-length Inv-loop μ-loop
 same-length c = search needs

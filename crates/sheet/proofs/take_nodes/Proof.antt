@@ -44,9 +44,11 @@ loop-less c = search needs
 loop-again : tie.Need-loop-again Inv-loop μ-loop
 loop-again c =
     let l = c .before .before in
-    let a = l .before .before .before .args in
-    (search needs, simp length-set (l .loop .inv .1),
-    front-field (each 8 (a .sheet .now)) 12 19 (a .nodes .now) (l .loop .nodes) (l .loop .k) (12 + 19 * l .loop .k) (c .field-at .result) (omega arith) (l .loop .inv .2) refl (c .field-at .ensures))
+    let a = l .before .before .before .args in (
+      search needs,
+      simp length-set (l .loop .inv .1),
+      front-field (each 8 (a .sheet .now)) 12 19 (a .nodes .now) (l .loop .nodes) (l .loop .k) (12 + 19 * l .loop .k) (c .field-at .result) (omega arith) (l .loop .inv .2) refl (c .field-at .ensures),
+    )
 
 same-length : tie.Need-same-length Inv-loop μ-loop
 same-length c = search needs

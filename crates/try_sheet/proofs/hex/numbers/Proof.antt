@@ -21,6 +21,9 @@ loop-holds c = search needs
 mul-i : tie.Need-mul-i Inv-loop μ-loop
 mul-i c = search needs
 
+returns : tie.Need-returns Inv-loop μ-loop
+returns c = search needs
+
 byte-requires : tie.Need-byte-requires Inv-loop μ-loop
 byte-requires c κs = search needs
 
@@ -60,8 +63,8 @@ loop-less c = search needs
 loop-again : tie.Need-loop-again Inv-loop μ-loop
 loop-again c = search needs
 
-returns : tie.Need-returns Inv-loop μ-loop
-returns c = search needs
+returns-2 : tie.Need-returns-2 Inv-loop μ-loop
+returns-2 c = search needs
 
 pub numbers-spec : {M : Type 1} → statement M
 numbers-spec =
@@ -72,6 +75,7 @@ numbers-spec =
     table-requires
     loop-holds
     mul-i
+    returns
     byte-requires
     add-byte
     byte-requires-2
@@ -85,4 +89,4 @@ numbers-spec =
     add-j
     loop-less
     loop-again
-    returns)
+    returns-2)
