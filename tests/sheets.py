@@ -479,6 +479,9 @@ def large(v):
     v.read(sheet_of(0, chain(255)), 256, 0)
     v.write(8, FULL, 607, 13)
     v.write(8, FULL, 609, 0)
+    v.title('far more lent than is needed')
+    v.read(sheet_of(1, [instant(1, 0)]), 300, 0)
+    v.write(1, [instant(1, 0)], 700, 0)
     v.title('the last of 255 nodes has 7, 8, 9, 10')
     for last, refusal in [(node(6), 7), (instant(1, 0), 8), (repetition(254), 9), (repetition(0), 10)]:
         v.read(sheet_of(0, chain(254) + [last]), 255, refusal)

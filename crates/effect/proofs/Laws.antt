@@ -29,6 +29,10 @@ pub at-entry : (ds : List Decoded) (i : ℕ) → at (nodesOf ds) i ≡ nodeOf (e
 at-entry ds i = List·getD-map nodeOf ds i (Is Nil)
 
 -- ---- the lowest row
+pub lowest-nil : lowest [] ≡ 0
+unfolding lowest
+lowest-nil = refl
+
 pub lowest-skip : (r : ℕ) (rs : List ℕ) → r ≡ 0 → lowest (r ∷ rs) ≡ lowest rs
 unfolding lowest
 lowest-skip r rs h = simp (eq-eqb r 0 h)

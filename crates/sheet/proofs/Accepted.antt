@@ -1,19 +1,18 @@
 -- When the reader and the writer accept, row by row: a refusal is 0 exactly when none of its rows applies. And what
 -- an accepted table tells of its numbers: each has 19 bits, since a larger one is refused as 7.
-use Prim.Native.Nat.{ℕ, zero, suc, _+_, _^_, _≤_, _<_}
-use mathlib.Core.Path.{_≡_, refl, sym, ap, ap₂, _∙_}
-use mathlib.Core.Bool.{Bool, true, false, not, _||_}
+use Prim.Native.Nat.{ℕ, _^_, _≤_, _<_}
+use mathlib.Core.Path.{_≡_, refl, sym, _∙_}
+use mathlib.Core.Bool.{false}
 use mathlib.Core.Logic.{_↔_, ⊎-elim}
 use mathlib.Core.List.{List, [], _∷_}
 use native.Mathlib.Omega.{arith}
-use lib.Dec.{ltb, eqb}
 use lib.ListN.{length, getD, length-map, List·getD-eq-default}
 use borrow.Author.Tests.{ltb-false, le-ltb, eqb-false, eqb-true, eq-eqb, ne-eqb}
-use Rattle.effect.specs.declared.Decoded.{Decoded}
 use Rattle.effect.specs.declared.Decoded.the-variants.{None}
 use Rattle.effect.specs.Node.{decodeOf, decodings}
-use Rattle.effect.specs.Refusals.{lowest, rule, nodeRefusal, refusalAt, tableRefusal, sideRefusal}
+use Rattle.effect.specs.Refusals.{lowest, nodeRefusal, refusalAt, tableRefusal, sideRefusal}
 use Rattle.effect.proofs.Laws.{entry-decoded, lowest-none, rule-none, none-nodes, or-none, not-none}
+use Rattle.effect.proofs.Inverse.{decoded-lt}
 use Rattle.sheet.specs.Sheet.{sheetLength, signalsIn, countIn, nodesIn, fillingSet, headerRefusal, readRefusal, writeRefusal}
 use Rattle.sheet.proofs.Fields.{below-or}
 
@@ -123,17 +122,13 @@ write-none s ns room = (
   (λ h. none-rows _ (side-none s ns .1 (h .0), (rule-none 12 _ .1 (le-ltb _ _ (h .1)), tt))),
 )
 
--- a number of over 19 bits stands for no node
-wide-none : (x : ℕ) → 2 ^ 19 ≤ x → decodeOf x ≡ None
-unfolding decodeOf
-wide-none x h = simp (le-ltb x (2 ^ 19) h)
-
+-- each number of an accepted table stands for a node
 pub numbers-small : (s : ℕ) (ns : List ℕ) → tableRefusal s (decodings ns) ≡ 0 → (k : ℕ) → getD ns k 0 < 2 ^ 19
 unfolding tableRefusal refusalAt nodeRefusal
-numbers-small s ns h k = ⊎-elim (λ l. ⊎-elim (λ g. g) (wide l) (below-or (getD ns k 0) (2 ^ 19))) (λ l. rw (List·getD-eq-default ns 0 l) (omega arith)) (below-or k (length ns))
+numbers-small s ns h k = ⊎-elim (λ l. decoded-lt (getD ns k 0) (decoded l)) (λ l. rw (List·getD-eq-default ns 0 l) (omega arith)) (below-or k (length ns))
   where
-    fine : k < length ns → refusalAt s (decodings ns) k ≡ 0
-    fine l = none-nodes _ _ (lowest-none _ _ .0 h .0) k (rw (length-map ns decodeOf) l)
-
-    wide : k < length ns → 2 ^ 19 ≤ getD ns k 0 → getD ns k 0 < 2 ^ 19
-    wide l g = absurd (let z : _≡_ {A = ℕ} 7 0 = rw (entry-decoded ns k, wide-none (getD ns k 0) g) at (fine l) in omega arith)
+    decoded : k < length ns → decodeOf (getD ns k 0) ≡ None → ⊥
+    decoded l e =
+        let fine : refusalAt s (decodings ns) k ≡ 0 = none-nodes _ _ (lowest-none _ _ .0 h .0) k (rw (length-map ns decodeOf) l) in
+        let z : _≡_ {A = ℕ} 7 0 = rw (entry-decoded ns k, e) at fine in
+        omega arith

@@ -2,8 +2,8 @@
 -- with no filling bit is the sheet of what is read from it. Both by the bits: those of a sheet's bytes are the bits
 -- that were packed, and a field's digits are the bits that it was read from.
 use Prim.Native.Nat.{ℕ, _+_, _-_, _*_, _/_, _%_, _^_, _<_, _≤_}
-use mathlib.Core.Path.{_≡_, refl, sym, ap, ap₂, _∙_}
-use mathlib.Core.Bool.{Bool, true, false}
+use mathlib.Core.Path.{_≡_, sym, ap, ap₂, _∙_}
+use mathlib.Core.Bool.{false}
 use mathlib.Core.Logic.{⊎-elim}
 use mathlib.Core.List.{List}
 use native.Mathlib.Omega.{arith}
@@ -12,12 +12,12 @@ use lib.ListN.{length, getD, List·getD-eq-default}
 use lib.Seq.{ext-getD}
 use borrow.Author.Tests.{ne-eqb, eqb-false}
 use Rattle.bits.specs.Bit.{bit}
-use Rattle.bits.proofs.Laws.{bit-zero}
 use Rattle.effect.proofs.Laws.{below-none}
-use Rattle.sheet.specs.Bits.{each, field, fields}
+use Rattle.sheet.specs.Bits.{each, field}
 use Rattle.sheet.specs.Sheet.{usedBits, sheetLength, fillingBits, sheetBits, sheetOf, signalsIn, countIn, nodesIn, fillingSet}
 use Rattle.sheet.specs.RoundTrip.{Bytes}
-use Rattle.sheet.proofs.Fields.{below-or, length-each, each-at, each-bit, each-bits, digit-of-field, field-of-digits, length-fields, getD-fields, fields-of-digits, packed, unpacked}
+use Rattle.sheet.proofs.Fields.{below-or, length-each, each-at, each-bit, byte-bits, digit-of-field, field-of-digits, length-fields, getD-fields, fields-of-digits, packed, unpacked}
+use Rattle.sheet.proofs.Header.{length-nodes}
 use Rattle.sheet.proofs.SheetBits.{length-sheetBits, signals-bit, count-bit, node-bit, sheetBits-bits}
 
 module _ (s : ℕ) (ns : List ℕ) where
@@ -53,15 +53,11 @@ module _ (s : ℕ) (ns : List ℕ) where
       (below-none (λ k. eqb (getD (sheetBits s ns) (usedBits (length ns) + k) 0) 1) (fillingBits (length ns)) .1
       (λ k l. ne-eqb (getD (sheetBits s ns) (usedBits (length ns) + k) 0) 1 (λ e. let z = node-bit s ns (usedBits (length ns) + k) (omega arith) ∙ List·getD-eq-default (each 19 ns) 0 (omega (arith, length-each 19 ns)) in omega arith)))
 
-pub length-nodes : (sheet : List ℕ) → length (nodesIn sheet) ≡ countIn sheet
-unfolding nodesIn
-length-nodes sheet = length-fields (each 8 sheet) 12 19 (countIn sheet)
-
 -- a sheet that is as long as the formula says and has no filling bit
 module _ (sheet : List ℕ) (size : length sheet ≡ sheetLength (countIn sheet)) (filled : fillingSet sheet ≡ false) where
   -- bit k of a field of the sheet
   bit-in : (o w k : ℕ) → k < w → bit (field (each 8 sheet) o w) (w - (k + 1)) ≡ getD (each 8 sheet) (o + k) 0
-  bit-in o w k h = digit-of-field (each 8 sheet) (each-bits 8 sheet (omega arith)) o w k h
+  bit-in o w k h = digit-of-field (each 8 sheet) (byte-bits sheet) o w k h
 
   -- bit i of the nodes
   node-in : (i : ℕ) → i < 19 * countIn sheet → getD (each 19 (nodesIn sheet)) i 0 ≡ getD (each 8 sheet) (12 + i) 0
@@ -80,7 +76,7 @@ module _ (sheet : List ℕ) (size : length sheet ≡ sheetLength (countIn sheet)
       let f : getD (each 8 sheet) (usedBits (countIn sheet) + k) 0 ≡ 1 → ⊥ = eqb-false _ 1 (below-none (λ k. eqb (getD (each 8 sheet) (usedBits (countIn sheet) + k) 0) 1) (fillingBits (countIn sheet)) .0 filled k (omega arith)) in
       let e : usedBits (countIn sheet) + k ≡ 12 + i = omega arith in
       let g : getD (each 8 sheet) (12 + i) 0 ≡ 1 → ⊥ = λ q. f (ap (λ (j : ℕ). getD (each 8 sheet) j 0) e ∙ q) in
-      omega (arith, g, each-bits 8 sheet (omega arith) (12 + i))
+      omega (arith, g, byte-bits sheet (12 + i))
 
   bits-of : sheetBits (signalsIn sheet) (nodesIn sheet) ≡ each 8 sheet
   unfolding signalsIn countIn

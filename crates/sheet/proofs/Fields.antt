@@ -2,16 +2,17 @@
 -- them, and that each undoes the other. All of them speak of one bit at a place w * q + r with r < w, so no law but
 -- `each-bit` divides; a field's digits come one at a time, by bit 0 of v being v % 2 and bit j + 1 being bit j of v / 2.
 use Prim.Native.Nat.{ℕ, zero, suc, _+_, _-_, _*_, _/_, _%_, _^_, _<_, _≤_}
-use mathlib.Core.Path.{_≡_, refl, sym, ap, ap₂, subst, _∙_}
+use mathlib.Core.Path.{_≡_, refl, sym, ap, _∙_}
 use mathlib.Core.Bool.{Bool, true, false, not, _||_}
 use mathlib.Core.Logic.{_⊎_, inl, inr, ⊎-elim}
 use mathlib.Core.List.{List, [], _∷_, _++_}
-use native.Mathlib.Nat.{pow-suc, mul-suc, mul-zero, zero-add, add-assoc, add-comm, eq-or-lt-of-le, le-of-suc-le-suc, mod-lt, div-add-mod, div-lt-iff-lt-mul, mul-comm}
+use native.Mathlib.Nat.{pow-suc, mul-suc, mul-zero, eq-or-lt-of-le, le-of-suc-le-suc, mod-lt, div-add-mod, div-lt-iff-lt-mul, mul-comm, lt-of-lt-of-le}
 use native.Mathlib.Omega.{arith}
 use lib.Dec.{ltb, eqb}
-use lib.ListN.{length, getD, replicate, length-append, length-replicate, getD-replicate, List·getD-append, List·getD-eq-default}
+use lib.ListN.{length, getD, replicate, length-append, List·getD-append, List·getD-eq-default}
+use lib.Pow.{pow-mono}
 use lib.Seq.{getD-append-add, getD-at, ext-getD}
-use borrow.Author.Tests.{ltb-true, ltb-false, eq-eqb, ne-eqb}
+use borrow.Author.Tests.{ltb-true, ltb-false, ne-eqb}
 use Rattle.bits.specs.Bit.{bit}
 use Rattle.bits.proofs.Laws.{bit-low, bit-suc, bit-lt, bit-zero}
 use Rattle.effect.specs.Refusals.{someBelow}
@@ -85,6 +86,9 @@ AreBits bs = (i : ℕ) → getD bs i 0 < 2
 pub each-bits : (w : ℕ) (vs : List ℕ) → 0 < w → AreBits (each w vs)
 each-bits w vs h i = rw (each-bit w vs i h) (bit-lt (getD vs (i / w) 0) (w - (i % w + 1)))
 
+pub byte-bits : (bytes : List ℕ) → AreBits (each 8 bytes)
+byte-bits bytes = each-bits 8 bytes (omega arith)
+
 -- of a number's digits the last is the remainder by 2, and the others are those of the half
 digit-last : (w k v : ℕ) → k ≡ w → bit v (suc w - (k + 1)) ≡ v % 2
 digit-last w k v e = ap (bit v) (let z : suc w - (k + 1) ≡ 0 = omega arith in z) ∙ bit-low v
@@ -97,6 +101,10 @@ module _ (bs : List ℕ) (are : AreBits bs) (o : ℕ) where
   unfolding field
   field-lt zero = omega arith
   field-lt (suc w) = omega (arith, field-lt w, are (o + w), pow-suc 2 w)
+
+  -- the first k bits of a field of w, as a loop reads them
+  pub field-under : (w k v : ℕ) → k ≤ w → v ≡ field bs o k → v < 2 ^ w
+  field-under w k v h e = rw e (lt-of-lt-of-le (field-lt k) (pow-mono {i = k} {j = w} h))
 
   -- a field's digits are the bits that it was read from
   pub digit-of-field : (w k : ℕ) → k < w → bit (field bs o w) (w - (k + 1)) ≡ getD bs (o + k) 0

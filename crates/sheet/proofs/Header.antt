@@ -1,23 +1,27 @@
--- What stands in the header of a sheet: how large its numbers can be, and rule 5 as one field.
+-- What stands in the header of a sheet: how large its numbers can be, how many nodes are read, and rule 5 as one field.
 use Prim.Native.Nat.{ℕ, _^_, _<_}
 use mathlib.Core.Path.{_≡_}
 use mathlib.Core.Bool.{not}
 use mathlib.Core.List.{List}
-use native.Mathlib.Omega.{arith}
 use lib.Dec.{eqb}
+use lib.ListN.{length}
 use Rattle.sheet.specs.Bits.{each, field}
-use Rattle.sheet.specs.Sheet.{usedBits, fillingBits, signalsIn, countIn, fillingSet}
-use Rattle.sheet.proofs.Fields.{each-bits, field-lt, field-some}
+use Rattle.sheet.specs.Sheet.{usedBits, fillingBits, signalsIn, countIn, nodesIn, fillingSet}
+use Rattle.sheet.proofs.Fields.{byte-bits, field-lt, field-some, length-fields}
 
 pub signals-lt : (sheet : List ℕ) → signalsIn sheet < 2 ^ 4
 unfolding signalsIn
-signals-lt sheet = field-lt (each 8 sheet) (each-bits 8 sheet (omega arith)) 0 4
+signals-lt sheet = field-lt (each 8 sheet) (byte-bits sheet) 0 4
 
 pub count-lt : (sheet : List ℕ) → countIn sheet < 2 ^ 8
 unfolding countIn
-count-lt sheet = field-lt (each 8 sheet) (each-bits 8 sheet (omega arith)) 4 8
+count-lt sheet = field-lt (each 8 sheet) (byte-bits sheet) 4 8
+
+pub length-nodes : (sheet : List ℕ) → length (nodesIn sheet) ≡ countIn sheet
+unfolding nodesIn
+length-nodes sheet = length-fields (each 8 sheet) 12 19 (countIn sheet)
 
 -- a filling bit is set exactly when the filling read as a number is not 0
 pub filling-field : (sheet : List ℕ) → fillingSet sheet ≡ not (eqb (field (each 8 sheet) (usedBits (countIn sheet)) (fillingBits (countIn sheet))) 0)
 unfolding fillingSet
-filling-field sheet = field-some (each 8 sheet) (each-bits 8 sheet (omega arith)) (usedBits (countIn sheet)) (fillingBits (countIn sheet))
+filling-field sheet = field-some (each 8 sheet) (byte-bits sheet) (usedBits (countIn sheet)) (fillingBits (countIn sheet))

@@ -3,6 +3,7 @@ pub mod Front
 pub mod SheetBits
 pub mod Header
 pub mod Accepted
+pub mod Calls
 pub mod Again
 pub mod RoundTrip
 pub mod Unique

@@ -1,31 +1,23 @@
 -- The two round trips of specs/RoundTrip. What was accepted says that the second call is accepted, and by `Again` its
 -- result is the sheet, or the table, that the first call had; a promise has one result (`Unique`).
 use Prim.Native.Nat.{ℕ, _^_, _≤_, _<_}
-use mathlib.Core.Path.{_≡_, refl, sym, ap, ap₂, _∙_}
+use mathlib.Core.Path.{_≡_, sym, ap, ap₂, _∙_}
 use mathlib.Core.List.{List, [], _∷_}
 use native.Mathlib.Omega.{arith}
-use lib.ListN.{length, getD, take, drop}
+use lib.ListN.{length, getD, take}
 use lib.Seq.{take-at}
 use Rattle.effect.specs.Node.{decodings}
-use Rattle.effect.specs.Refusals.{tableRefusal, Answer}
-use Rattle.sheet.specs.declared.Reading.{Reading}
+use Rattle.effect.specs.Refusals.{tableRefusal}
 use Rattle.sheet.specs.declared.Reading.the-variants as reading-variants
-use Rattle.sheet.specs.declared.Writing.{Writing}
 use Rattle.sheet.specs.declared.Writing.the-variants as writing-variants
-use Rattle.sheet.specs.Sheet.{sheetLength, sheetOf, signalsIn, countIn, nodesIn, readRefusal, writeRefusal, Left, exit, front, left, reading, readOf, writing, writeOf, Reads, Writes}
+use Rattle.sheet.specs.Sheet.{sheetLength, sheetOf, signalsIn, countIn, nodesIn, readRefusal, Left, front, left, reading, readOf, writing, writeOf, Reads, Writes}
 use Rattle.sheet.specs.RoundTrip.{Bytes, SheetAgain, TableAgain}
-use Rattle.sheet.proofs.Header.{count-lt}
-use Rattle.sheet.proofs.Accepted.{Header, Side, read-none, write-none, numbers-small}
-use Rattle.sheet.proofs.Again.{length-sheetOf, signals-again, count-again, nodes-again, filling-again, length-nodes, sheet-of}
+use Rattle.sheet.proofs.Front.{done, left-done}
+use Rattle.sheet.proofs.Header.{length-nodes}
+use Rattle.sheet.proofs.Accepted.{Header, Side, header-none, side-none, read-none, write-none, numbers-small}
+use Rattle.sheet.proofs.Calls.{read-side}
+use Rattle.sheet.proofs.Again.{length-sheetOf, signals-again, count-again, nodes-again, filling-again, sheet-of}
 use Rattle.sheet.proofs.Unique.{read-one, write-one}
-
--- what an accepted call leaves
-abbrev done : List ℕ → List ℕ → Left
-done values lent = exit (record { number = 0; values = values }) lent
-
--- no refusal: the values, and the result at the front of what was lent
-left-done : (r : ℕ) (values result lent : List ℕ) → r ≡ 0 → left r values result lent ≡ done values (front result lent)
-left-done r values result lent z = ap (λ (n : ℕ). left n values result lent) z
 
 -- an answer of number 0 was no refusal
 done-left : (r : ℕ) (values values′ result lent lent′ : List ℕ) → done values lent′ ≡ left r values′ result lent → (r ≡ 0) × (done values lent′ ≡ done values′ (front result lent))
@@ -36,24 +28,18 @@ done-left r values values′ result lent lent′ e =
 value : (k : ℕ) (values values′ lent lent′ : List ℕ) → done values lent ≡ done values′ lent′ → getD values k 0 ≡ getD values′ k 0
 value k values values′ lent lent′ e = ap (λ (t : Left). getD (t .answer .values) k 0) e
 
--- a sheet that is read, and the sheet of a table that is written
-module _ (sheet lent : List ℕ) (bytes : Bytes sheet) (header : Header sheet (length lent)) (table : tableRefusal (signalsIn sheet) (decodings (nodesIn sheet)) ≡ 0) where
-  size : length (nodesIn sheet) ≡ countIn sheet
-  size = length-nodes sheet
+-- an accepted sheet: what is read from it is accepted, and its sheet is the sheet
+module _ (sheet lent : List ℕ) (bytes : Bytes sheet) (none : readRefusal sheet (length lent) ≡ 0) where
+  header : Header sheet (length lent)
+  header = read-none sheet (length lent) .0 none .0
 
   side : Side (signalsIn sheet) (nodesIn sheet)
-  side =
-      record {
-        signals = header .signals;
-        some = λ e. header .some (sym size ∙ e);
-        few = omega (arith, size, count-lt sheet);
-        table = table;
-      }
+  side = side-none _ _ .0 (sym (read-side sheet lent (header-none sheet (length lent) .1 header)) ∙ none)
 
   written : (out : List ℕ) → length sheet ≤ length out → Writes (signalsIn sheet) (nodesIn sheet) out (writing-variants.Accepted (length sheet)) (front sheet out)
   unfolding writing writeOf
   written out h =
-      let n : sheetLength (length (nodesIn sheet)) ≡ length sheet = ap sheetLength size ∙ sym (header .size) in
+      let n : sheetLength (length (nodesIn sheet)) ≡ length sheet = ap sheetLength (length-nodes sheet) ∙ sym (header .size) in
       sym
       (left-done _ _ (sheetOf (signalsIn sheet) (nodesIn sheet)) out (write-none (signalsIn sheet) (nodesIn sheet) (length out) .1 (side, omega (arith, n, h)))
       ∙ ap₂ (λ (k : ℕ) (l : List ℕ). done (k ∷ []) (front l out)) n (sheet-of sheet (header .size) (header .filled) bytes))
@@ -62,14 +48,14 @@ pub sheet-again : SheetAgain
 unfolding reading readOf
 sheet-again sheet lent lent′ out out′ s n r bytes rd fits wr =
     let d = done-left _ _ _ (nodesIn sheet) lent lent′ rd in
-    let a = read-none sheet (length lent) .0 (d .0) in
     let is : s ≡ signalsIn sheet = value 0 _ _ _ _ (d .1) in
     let many : n ≡ countIn sheet = value 1 _ _ _ _ (d .1) in
     let nodes : take n lent′ ≡ nodesIn sheet = ap₂ take many (ap (λ (t : Left). t .lent) (d .1)) ∙ take-at (nodesIn sheet) _ (countIn sheet) (length-nodes sheet) in
     write-one (signalsIn sheet) (nodesIn sheet) out out′ (front sheet out) r (writing-variants.Accepted (length sheet))
     (wr ∙ ap₂ (λ (x : ℕ) (l : List ℕ). writeOf x l out) is nodes)
-    (written sheet lent bytes (a .0) (a .1) out fits)
+    (written sheet lent bytes (d .0) out fits)
 
+-- an accepted table: its sheet is accepted, and what is read from it is the table
 module _ (s : ℕ) (ns : List ℕ) (side : Side s ns) where
   few : length ns < 2 ^ 8
   few = omega (arith, side .few)
@@ -83,8 +69,8 @@ module _ (s : ℕ) (ns : List ℕ) (side : Side s ns) where
   nodes : nodesIn (sheetOf s ns) ≡ ns
   nodes = nodes-again s ns few (numbers-small s ns (side .table))
 
-  header : (lent : ℕ) → length ns ≤ lent → Header (sheetOf s ns) lent
-  header lent h =
+  header-back : (lent : ℕ) → length ns ≤ lent → Header (sheetOf s ns) lent
+  header-back lent h =
       record {
         long = (let z : length ns ≡ 0 → ⊥ = side .some in omega (arith, length-sheetOf s ns, z));
         signals = rw signals (side .signals);
@@ -98,7 +84,7 @@ module _ (s : ℕ) (ns : List ℕ) (side : Side s ns) where
   unfolding reading readOf
   read-back lent h =
       sym
-      (left-done _ _ (nodesIn (sheetOf s ns)) lent (read-none (sheetOf s ns) (length lent) .1 (header (length lent) h, ap₂ (λ (x : ℕ) (l : List ℕ). tableRefusal x (decodings l)) signals nodes ∙ side .table))
+      (left-done _ _ (nodesIn (sheetOf s ns)) lent (read-none (sheetOf s ns) (length lent) .1 (header-back (length lent) h, ap₂ (λ (x : ℕ) (l : List ℕ). tableRefusal x (decodings l)) signals nodes ∙ side .table))
       ∙ (let e : done (signalsIn (sheetOf s ns) ∷ countIn (sheetOf s ns) ∷ []) (front (nodesIn (sheetOf s ns)) lent) ≡ done (s ∷ length ns ∷ []) (front ns lent) = rw (signals, many, nodes) in e))
 
 pub table-again : TableAgain

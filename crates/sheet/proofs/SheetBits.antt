@@ -1,10 +1,10 @@
 -- The bits of a sheet, one at a time: 4 of s, 8 of the number of nodes, 19 of each node, and zeros from there on.
-use Prim.Native.Nat.{ℕ, zero, suc, _+_, _-_, _*_, _/_, _%_, _^_, _<_, _≤_}
-use mathlib.Core.Path.{_≡_, refl, sym, ap, _∙_}
+use Prim.Native.Nat.{ℕ, _-_, _*_, _<_, _≤_}
+use mathlib.Core.Path.{_≡_, ap, _∙_}
 use mathlib.Core.Logic.{⊎-elim}
-use mathlib.Core.List.{List, _++_}
+use mathlib.Core.List.{List}
 use native.Mathlib.Omega.{arith}
-use lib.ListN.{length, getD, replicate, length-append, length-replicate, List·getD-append}
+use lib.ListN.{length, getD, length-append, length-replicate, List·getD-append}
 use Rattle.bits.specs.Bit.{bit}
 use Rattle.bits.proofs.Laws.{bit-lt}
 use Rattle.sheet.specs.Bits.{digits, each}

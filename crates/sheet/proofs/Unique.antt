@@ -1,8 +1,8 @@
 -- Each promise fixes what a call leaves: two results that meet the promise of `read`, or of `write`, are equal. An
 -- answer's number and values tell every case of a result from every other, and what is lent is left as it says.
 use Prim.Native.Nat.{ℕ}
-use mathlib.Core.Path.{_≡_, refl, sym, ap, _∙_}
-use mathlib.Core.List.{List, [], _∷_}
+use mathlib.Core.Path.{_≡_, sym, ap, _∙_}
+use mathlib.Core.List.{List}
 use native.Mathlib.Omega.{arith}
 use lib.ListN.{length}
 use Rattle.effect.specs.Refusals.{Answer}

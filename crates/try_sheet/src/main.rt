@@ -9,7 +9,8 @@
 //     04 KK AAAA BBBB        number the node of kind K with a and b
 //
 // Entry k of a lent table is c0de0000 + k beforehand, and each byte of a lent output is ee. A line
-// that begins with '#' is printed as it is. The first record that is none ends the run.
+// that begins with '#' is printed as it is. A line that is no record, or asks for more than 300 nodes or
+// 700 bytes, ends the run with the line `bad record`. No more than 65,536 bytes of input are read.
 mod hex;
 mod print;
 mod record;

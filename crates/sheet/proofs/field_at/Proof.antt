@@ -1,13 +1,11 @@
 -- The loop has read the first k bits of the field, which are below 2 ^ k.
 use Prim.Native.Nat.{ℕ, _≤_, _<_, _+_, _-_, _*_, _^_}
 use mathlib.Core.Path.{_≡_, ap, ap₂, _∙_}
-use native.Mathlib.Nat.{lt-of-lt-of-le}
 use native.Mathlib.Numerals.{add-one}
 use native.Mathlib.Omega.{arith}
-use lib.Pow.{pow-mono}
 use borrow.Author.Needs.{needs}
 use Rattle.sheet.specs.Bits.{each, field}
-use Rattle.sheet.proofs.Fields.{each-bits, field-lt}
+use Rattle.sheet.proofs.Fields.{byte-bits, field-under}
 use Rattle.sheet.proofs.field_at.Statement.{statement}
 use Rattle.sheet.proofs.field_at.Tie as tie
 
@@ -25,8 +23,7 @@ small : (c : tie.In-loop Inv-loop μ-loop) → c .before .loop .v < 2 ^ 19
 small c =
     let l = c .before in
     let a = l .before .before .args in
-    lt-of-lt-of-le (rw (← l .loop .inv .1) at (field-lt (each 8 (a .sheet .now)) (each-bits 8 (a .sheet .now) (omega arith)) (a .o) (l .loop .k)))
-    (pow-mono {i = l .loop .k} {j = 19} (omega arith))
+    field-under (each 8 (a .sheet .now)) (byte-bits (a .sheet .now)) (a .o) 19 (l .loop .k) (l .loop .v) (omega arith) (l .loop .inv .1)
 
 mul-v : tie.Need-mul-v Inv-loop μ-loop
 mul-v c = omega (arith, small c)
@@ -41,7 +38,7 @@ add-v : tie.Need-add-v Inv-loop μ-loop
 add-v c =
     let l = c .before .before in
     let a = l .before .before .args in
-    omega (arith, small (c .before), each-bits 8 (a .sheet .now) (omega arith) (a .o + l .loop .k), c .bit-at .ensures)
+    omega (arith, small (c .before), byte-bits (a .sheet .now) (a .o + l .loop .k), c .bit-at .ensures)
 
 add-k : tie.Need-add-k Inv-loop μ-loop
 add-k c = search needs

@@ -1,6 +1,6 @@
 -- The loop has put the first k bytes at the front of the output as it was lent.
-use Prim.Native.Nat.{ℕ, _+_, _-_, _*_, _≤_}
-use mathlib.Core.Path.{_≡_, refl, sym, ap, _∙_}
+use Prim.Native.Nat.{ℕ, _-_, _*_, _≤_}
+use mathlib.Core.Path.{_≡_, refl, ap, _∙_}
 use mathlib.Core.List.{List, [], _∷_}
 use native.Mathlib.Omega.{arith}
 use lib.ListN.{length-set}
@@ -9,7 +9,7 @@ use borrow.Author.Needs.{needs}
 use borrow.Author.Tests.{lt-ltb, le-ltb}
 use Rattle.effect.specs.Refusals.{answered}
 use Rattle.sheet.specs.Bits.{fields}
-use Rattle.sheet.specs.Sheet.{front, exit, sheetLength, sheetBits, sheetOf, writing}
+use Rattle.sheet.specs.Sheet.{front, exit, sheetBits, sheetOf, writing}
 use Rattle.sheet.proofs.Front.{front-field}
 use Rattle.sheet.proofs.put_sheet.Statement.{statement}
 use Rattle.sheet.proofs.put_sheet.Tie as tie

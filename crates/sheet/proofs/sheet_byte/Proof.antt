@@ -1,14 +1,13 @@
 -- The loop has read the first j bits of the byte, which are below 2 ^ j.
 use Prim.Native.Nat.{ℕ, _≤_, _<_, _+_, _-_, _*_, _^_}
 use mathlib.Core.Path.{_≡_, ap, ap₂, _∙_}
-use native.Mathlib.Nat.{lt-of-lt-of-le, mod-eq-of-lt}
+use native.Mathlib.Nat.{mod-eq-of-lt}
 use native.Mathlib.Numerals.{add-one}
 use native.Mathlib.Omega.{arith}
-use lib.Pow.{pow-mono}
 use borrow.Author.Needs.{needs}
 use Rattle.sheet.specs.Bits.{field}
 use Rattle.sheet.specs.Sheet.{sheetBits}
-use Rattle.sheet.proofs.Fields.{field-lt}
+use Rattle.sheet.proofs.Fields.{field-under}
 use Rattle.sheet.proofs.SheetBits.{sheetBits-bits}
 use Rattle.sheet.proofs.sheet_byte.Statement.{statement}
 use Rattle.sheet.proofs.sheet_byte.Tie as tie
@@ -26,8 +25,7 @@ loop-holds c = search needs
 small : (c : tie.At-loop Inv-loop μ-loop) → c .loop .v < 2 ^ 8
 small c =
     let a = c .before .before .args in
-    lt-of-lt-of-le (rw (← c .loop .inv .1) at (field-lt (sheetBits (a .s) (a .nodes .now)) (sheetBits-bits (a .s) (a .nodes .now)) (8 * a .k) (c .loop .j)))
-    (pow-mono {i = c .loop .j} {j = 8} (omega arith))
+    field-under (sheetBits (a .s) (a .nodes .now)) (sheetBits-bits (a .s) (a .nodes .now)) (8 * a .k) 8 (c .loop .j) (c .loop .v) (omega arith) (c .loop .inv .1)
 
 mul-v : tie.Need-mul-v Inv-loop μ-loop
 mul-v c = omega (arith, small (c .before))
