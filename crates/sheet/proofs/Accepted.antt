@@ -26,7 +26,7 @@ pub record Header (sheet : List ℕ) (lent : ℕ) : Type 0 where
   pub room : countIn sheet ≤ lent
 
 -- none of 2, 3 and 7 to 12 applies
-pub record Side (s : ℕ) (ns : List ℕ) : Type 0 where
+pub record Fine (s : ℕ) (ns : List ℕ) : Type 0 where
   pub signals : s ≤ 8
   pub some : length ns ≡ 0 → ⊥
   pub few : length ns ≤ 255
@@ -81,7 +81,7 @@ header-none sheet lent = (
       )),
 )
 
-pub side-none : (s : ℕ) (ns : List ℕ) → (sideRefusal s (decodings ns) ≡ 0) ↔ Side s ns
+pub side-none : (s : ℕ) (ns : List ℕ) → (sideRefusal s (decodings ns) ≡ 0) ↔ Fine s ns
 unfolding sideRefusal
 side-none s ns =
     let size : length (decodings ns) ≡ length ns = length-map ns decodeOf in (
@@ -115,7 +115,7 @@ read-none sheet lent = (
   (λ h. none-rows _ (header-none sheet lent .1 (h .0), (h .1, tt))),
 )
 
-pub write-none : (s : ℕ) (ns : List ℕ) (room : ℕ) → (writeRefusal s ns room ≡ 0) ↔ (Side s ns × (sheetLength (length ns) ≤ room))
+pub write-none : (s : ℕ) (ns : List ℕ) (room : ℕ) → (writeRefusal s ns room ≡ 0) ↔ (Fine s ns × (sheetLength (length ns) ≤ room))
 unfolding writeRefusal
 write-none s ns room = (
   (λ h. let z = rows-none _ h in (side-none s ns .0 (z .0), ltb-false _ _ (rule-none 12 _ .0 (z .1 .0)))),

@@ -12,7 +12,7 @@ use Rattle.effect.proofs.Laws.{lowest-skip, lowest-head, lowest-one, side-table
 use Rattle.sheet.specs.Sheet.{sheetLength, sheetOf, signalsIn, countIn, nodesIn, headerRefusal, readRefusal, writeRefusal, Left, exit, front, left, readOf, writeOf}
 use Rattle.sheet.proofs.Front.{left-done, left-refused}
 use Rattle.sheet.proofs.Header.{count-lt, length-nodes}
-use Rattle.sheet.proofs.Accepted.{Side, header-none, side-none}
+use Rattle.sheet.proofs.Accepted.{Fine, header-none, side-none}
 
 abbrev refused : ℕ → Answer
 refused x = record { number = x; values = [] }
@@ -34,7 +34,7 @@ module _ (s : ℕ) (ns : List ℕ) where
       let m : _≡_ {A = ℕ} 0 1 = rw r at n in
       omega arith
 
-  pub check-side : (m : ℕ) → accepted (m ∷ []) ≡ checkOf s ns → Side s ns
+  pub check-side : (m : ℕ) → accepted (m ∷ []) ≡ checkOf s ns → Fine s ns
   unfolding checkOf
   check-side m e = side-none s ns .0 (sym (ap (λ (t : Answer). t .number) e))
 

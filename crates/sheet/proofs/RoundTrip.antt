@@ -14,7 +14,7 @@ use Rattle.sheet.specs.Sheet.{sheetLength, sheetOf, signalsIn, countIn, 
 use Rattle.sheet.specs.RoundTrip.{Bytes, SheetAgain, TableAgain}
 use Rattle.sheet.proofs.Front.{done, left-done}
 use Rattle.sheet.proofs.Header.{length-nodes}
-use Rattle.sheet.proofs.Accepted.{Header, Side, header-none, side-none, read-none, write-none, numbers-small}
+use Rattle.sheet.proofs.Accepted.{Header, Fine, header-none, side-none, read-none, write-none, numbers-small}
 use Rattle.sheet.proofs.Calls.{read-side}
 use Rattle.sheet.proofs.Again.{length-sheetOf, signals-again, count-again, nodes-again, filling-again, sheet-of}
 use Rattle.sheet.proofs.Unique.{read-one, write-one}
@@ -33,7 +33,7 @@ module _ (sheet lent : List ℕ) (bytes : Bytes sheet) (none : readRefusal sheet
   header : Header sheet (length lent)
   header = read-none sheet (length lent) .0 none .0
 
-  side : Side (signalsIn sheet) (nodesIn sheet)
+  side : Fine (signalsIn sheet) (nodesIn sheet)
   side = side-none _ _ .0 (sym (read-side sheet lent (header-none sheet (length lent) .1 header)) ∙ none)
 
   written : (out : List ℕ) → length sheet ≤ length out → Writes (signalsIn sheet) (nodesIn sheet) out (writing-variants.Accepted (length sheet)) (front sheet out)
@@ -56,7 +56,7 @@ sheet-again sheet lent lent′ out out′ s n r bytes rd fits wr =
     (written sheet lent bytes (d .0) out fits)
 
 -- an accepted table: its sheet is accepted, and what is read from it is the table
-module _ (s : ℕ) (ns : List ℕ) (side : Side s ns) where
+module _ (s : ℕ) (ns : List ℕ) (side : Fine s ns) where
   few : length ns < 2 ^ 8
   few = omega (arith, side .few)
 

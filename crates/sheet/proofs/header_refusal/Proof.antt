@@ -1,9 +1,13 @@
 -- Each return is the definition at the tests passed so far. What is read is first written back as the field that it is.
 use Prim.Native.Nat.{_<_, _^_}
+use mathlib.Core.Path.{_≡_, sym, _∙_}
+use mathlib.Core.Bool.{not}
+use mathlib.Core.List.{[], _∷_}
 use native.Mathlib.Omega.{arith}
+use lib.Dec.{eqb, ltb}
 use borrow.Author.Needs.{needs}
 use borrow.Author.Tests.{lt-ltb, le-ltb, eq-eqb, ne-eqb}
-use Rattle.effect.specs.Refusals.{lowest}
+use Rattle.effect.specs.Refusals.{rule, lowest}
 use Rattle.sheet.specs.Sheet.{signalsIn, countIn, headerRefusal}
 use Rattle.sheet.proofs.Header.{count-lt, filling-field}
 use Rattle.sheet.proofs.header_refusal.Statement.{statement}
@@ -70,64 +74,39 @@ sub-field-at c = omega (arith, small (c .before .before))
 field-at-requires-3 : tie.Need-field-at-requires-3
 field-at-requires-3 c κs = omega (arith, small (c .before .before))
 
-returns-5 : tie.Need-returns-5
+-- past 4 what was read of the filling decides, then what was lent
+past-four :
+    (c : tie.After-field-at3)
+    → let g = c .before .before .before in
+    let a = g .before .before .before .before .before .before .args in
+    headerRefusal (a .sheet .now) (a .lent) ≡ lowest (rule 5 (not (eqb (c .field-at3 .result) 0)) ∷ rule 6 (ltb (a .lent) (g .before .field-at2 .result)) ∷ [])
 unfolding headerRefusal lowest signalsIn countIn
-returns-5 c =
-    let h = c .before in
-    let g = h .before .before .before in
+past-four c =
+    let g = c .before .before .before in
     let f = g .before .before .before in
     rw (
       filling-field,
       ← f .field-at .ensures,
       ← g .before .field-at2 .ensures,
-      ← h .before .before .length-of .ensures,
-      ← h .field-at3 .ensures,
+      ← c .before .before .length-of .ensures,
+      ← c .field-at3 .ensures,
       le-ltb _ _ (f .before .if1 .left),
       le-ltb _ _ (g .before .before .if2 .left),
       ne-eqb _ _ (g .if3 .left),
-      eq-eqb _ _ (h .before .if4 .left),
-      ne-eqb _ _ (c .if5 .taken),
+      eq-eqb _ _ (c .before .if4 .left),
     )
+
+returns-5 : tie.Need-returns-5
+unfolding lowest
+returns-5 c = sym (past-four (c .before) ∙ rw (ne-eqb _ 0 (c .if5 .taken)))
 
 returns-6 : tie.Need-returns-6
-unfolding headerRefusal lowest signalsIn countIn
-returns-6 c =
-    let h = c .before .before in
-    let g = h .before .before .before in
-    let f = g .before .before .before in
-    rw (
-      filling-field,
-      ← f .field-at .ensures,
-      ← g .before .field-at2 .ensures,
-      ← h .before .before .length-of .ensures,
-      ← h .field-at3 .ensures,
-      le-ltb _ _ (f .before .if1 .left),
-      le-ltb _ _ (g .before .before .if2 .left),
-      ne-eqb _ _ (g .if3 .left),
-      eq-eqb _ _ (h .before .if4 .left),
-      eq-eqb _ _ (c .before .if5 .left),
-      lt-ltb _ _ (c .if6 .taken),
-    )
+unfolding lowest
+returns-6 c = sym (past-four (c .before .before) ∙ rw (eq-eqb _ 0 (c .before .if5 .left), lt-ltb _ _ (c .if6 .taken)))
 
 returns-7 : tie.Need-returns-7
-unfolding headerRefusal lowest signalsIn countIn
-returns-7 c =
-    let h = c .before .before in
-    let g = h .before .before .before in
-    let f = g .before .before .before in
-    rw (
-      filling-field,
-      ← f .field-at .ensures,
-      ← g .before .field-at2 .ensures,
-      ← h .before .before .length-of .ensures,
-      ← h .field-at3 .ensures,
-      le-ltb _ _ (f .before .if1 .left),
-      le-ltb _ _ (g .before .before .if2 .left),
-      ne-eqb _ _ (g .if3 .left),
-      eq-eqb _ _ (h .before .if4 .left),
-      eq-eqb _ _ (c .before .if5 .left),
-      le-ltb _ _ (c .if6 .left),
-    )
+unfolding lowest
+returns-7 c = sym (past-four (c .before .before) ∙ rw (eq-eqb _ 0 (c .before .if5 .left), le-ltb _ _ (c .if6 .left)))
 
 pub header-refusal-spec : {M : Type 1} → statement M
 header-refusal-spec =
