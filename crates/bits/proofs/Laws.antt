@@ -4,13 +4,13 @@
 use mathlib.Core.Path.{_≡_, refl, sym, ap, _∙_, subst}
 use mathlib.Core.Bool.{Bool, true, false}
 use mathlib.Core.Logic.{_⊎_, inl, inr, ⊎-elim, _↔_}
-use Prim.Native.Nat.{ℕ, zero, suc, _+_, _*_, _/_, _%_, _^_, _≤_, _<_, min, max}
+use Prim.Native.Nat.{ℕ, zero, suc, _+_, _-_, _*_, _/_, _%_, _^_, _≤_, _<_, min, max}
 use native.Mathlib.Nat.{mod-lt, pow-suc, zero-lt-suc, div-div-eq-div-mul, div-one, mul-comm, one-mul, mod-eq-of-lt, lt-of-lt-of-le}
 use native.Mathlib.Omega.{arith}
 use lib.Arith.{digits-div, digits-mod, bin-ind, lt-one}
 use lib.Dec.{T, eqb, ltb, ltb→lt, lt→ltb, eqb→eq, eqb-refl}
-use lib.Bits.{bitAnd, bitOr, and-step, or-step}
-use lib.Pow.{pow-lt, pow-mono}
+use lib.Bits.{bitAnd, bitOr, bitXor, differ, and-step, or-step, xor-step}
+use lib.Pow.{pow-pos, pow-lt, pow-mono}
 use borrow.Author.Tests.{lt-ltb, ne-eqb}
 use Rattle.bits.specs.Bit.{bit, Mem, has, within}
 
@@ -61,6 +61,22 @@ pub bit-and : (a b j : ℕ) → bit (bitAnd a b) j ≡ min (bit a j) (bit b j)
 bit-and a b zero = rw (bit-low a, bit-low b) (last-digit _ _ _ (min-lt a b) (and-step a b))
 bit-and a b (suc j) = rw (bit-suc a j, bit-suc b j) (rest-digits _ _ _ j (min-lt a b) (and-step a b) ∙ bit-and (a / 2) (b / 2) j)
 
+differ-digit : (p q : ℕ) → p < 2 → q < 2 → (differ p q < 2) × (differ p (min p q) ≡ p - min p q)
+differ-digit zero zero h l = (omega arith, refl)
+differ-digit zero (suc zero) h l = (omega arith, refl)
+differ-digit zero (suc (suc q)) h l = absurd (omega arith)
+differ-digit (suc zero) zero h l = (omega arith, refl)
+differ-digit (suc zero) (suc zero) h l = (omega arith, refl)
+differ-digit (suc zero) (suc (suc q)) h l = absurd (omega arith)
+differ-digit (suc (suc p)) q h l = absurd (omega arith)
+
+pub bit-xor : (a b j : ℕ) → bit (bitXor a b) j ≡ differ (bit a j) (bit b j)
+bit-xor a b zero =
+    rw (bit-low a, bit-low b) (last-digit _ _ _ (differ-digit (a % 2) (b % 2) (mod-lt a two-pos) (mod-lt b two-pos) .0) (xor-step a b))
+bit-xor a b (suc j) =
+    rw (bit-suc a j, bit-suc b j)
+    (rest-digits _ _ _ j (differ-digit (a % 2) (b % 2) (mod-lt a two-pos) (mod-lt b two-pos) .0) (xor-step a b) ∙ bit-xor (a / 2) (b / 2) j)
+
 pub bit-zero : (j : ℕ) → bit 0 j ≡ 0
 bit-zero zero = bit-low 0
 bit-zero (suc j) = bit-suc 0 j ∙ bit-zero j
@@ -81,6 +97,16 @@ mem-or a b j = (to, from)
 pub mem-and : (a b j : ℕ) → Mem (bitAnd a b) j ↔ (Mem a j × Mem b j)
 mem-and a b j = (λ h. (omega (arith, bit-and a b j, bit-lt b j, bit-lt a j), omega (arith, bit-and a b j, bit-lt b j, bit-lt a j)), λ h. omega (arith, bit-and a b j))
 
+-- a without the members of b
+pub mem-without : (a b j : ℕ) → Mem (bitXor a (bitAnd a b)) j ↔ (Mem a j × (Mem b j → ⊥))
+mem-without a b j = ((λ h. (omega (arith, is, bit-lt a j, bit-lt b j), (λ m. omega (arith, is, bit-lt a j)))), from)
+  where
+    is : bit (bitXor a (bitAnd a b)) j ≡ bit a j - min (bit a j) (bit b j)
+    is = bit-xor a (bitAnd a b) j ∙ ap (differ (bit a j)) (bit-and a b j) ∙ differ-digit (bit a j) (bit b j) (bit-lt a j) (bit-lt b j) .1
+
+    from : Mem a j × (Mem b j → ⊥) → Mem (bitXor a (bitAnd a b)) j
+    from h = ⊎-elim (λ m. absurd (h .1 m)) (λ (z : bit b j ≡ 0). let g : Mem a j = h .0 in omega (arith, is)) (mem-dec b j)
+
 -- the set with the one member k
 pub mem-pow : (k j : ℕ) → Mem (2 ^ k) j ↔ (j ≡ k)
 mem-pow k j = (to k j, λ e. rw e (from k))
@@ -97,6 +123,25 @@ mem-pow k j = (to k j, λ e. rw e (from k))
     from : (k : ℕ) → Mem (2 ^ k) k
     from zero = bit-low 1
     from (suc k) = bit-suc (2 ^ suc k) k ∙ ap (λ (n : ℕ). bit n k) (half k) ∙ from k
+
+-- the set of all below n, and that of 1 to n
+pub mem-below : (n j : ℕ) → Mem (2 ^ n - 1) j ↔ (j < n)
+mem-below zero j = ((λ h. absurd (mem-zero j h)), (λ h. absurd (omega arith)))
+mem-below (suc n) zero = ((λ h. omega arith), (λ h. bit-low (2 ^ suc n - 1) ∙ odd))
+  where
+    odd : (2 ^ suc n - 1) % 2 ≡ 1
+    odd = omega (arith, pow-suc 2 n, pow-pos n)
+mem-below (suc n) (suc j) = ((λ h. let l : j < n = mem-below n j .0 (sym step ∙ h) in omega arith), (λ h. step ∙ mem-below n j .1 (omega arith)))
+  where
+    step : bit (2 ^ suc n - 1) (suc j) ≡ bit (2 ^ n - 1) j
+    step = bit-suc (2 ^ suc n - 1) j ∙ ap (λ (x : ℕ). bit x j) (let z : (2 ^ suc n - 1) / 2 ≡ 2 ^ n - 1 = omega (arith, pow-suc 2 n, pow-pos n) in z)
+
+pub mem-upto : (n j : ℕ) → Mem (2 ^ suc n - 2) j ↔ ((1 ≤ j) × (j ≤ n))
+mem-upto n zero = ((λ h. absurd (omega (arith, bit-low (2 ^ suc n - 2), pow-suc 2 n))), (λ h. absurd (omega arith)))
+mem-upto n (suc j) = ((λ h. let l : j < n = mem-below n j .0 (sym step ∙ h) in (omega arith, omega arith)), (λ h. step ∙ mem-below n j .1 (omega arith)))
+  where
+    step : bit (2 ^ suc n - 2) (suc j) ≡ bit (2 ^ n - 1) j
+    step = bit-suc (2 ^ suc n - 2) j ∙ ap (λ (x : ℕ). bit x j) (let z : (2 ^ suc n - 2) / 2 ≡ 2 ^ n - 1 = omega (arith, pow-suc 2 n, pow-pos n) in z)
 
 -- a number is its bits
 pub bit-ext : (a b : ℕ) → ((j : ℕ) → bit a j ≡ bit b j) → a ≡ b

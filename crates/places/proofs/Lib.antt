@@ -1,0 +1,15 @@
+pub mod Rows
+pub mod Tree
+pub mod Glushkov
+pub mod Under
+pub mod Unrolled
+pub mod Sets
+pub mod ByPlace
+pub mod Theorems
+pub mod Links
+pub mod Laws
+pub mod Walks
+pub mod Made
+pub mod Letters
+pub mod Matched
+pub mod Unique

@@ -1,0 +1,18 @@
+-- Any two results that meet a promise are equal: each promise is an equation of the result.
+use Prim.Native.Nat.{ℕ}
+use mathlib.Core.Path.{_≡_, sym, _∙_}
+use mathlib.Core.List.{List}
+use Rattle.places.specs.declared.Side.{Side}
+use Rattle.places.specs.declared.Prepared.{Prepared}
+use Rattle.places.specs.declared.Naming.{Naming}
+use Rattle.places.specs.Side.{prepareOf}
+use Rattle.places.specs.Matching.{namingOf, matchingBy}
+
+pub prepare-one : (s : ℕ) (ns : List ℕ) (r r′ : Prepared) → r ≡ prepareOf s ns → r′ ≡ prepareOf s ns → r ≡ r′
+prepare-one s ns r r′ e f = e ∙ sym f
+
+pub naming-one : (sd : Side) (r r′ : Naming) → r ≡ namingOf sd → r′ ≡ namingOf sd → r ≡ r′
+naming-one sd r r′ e f = e ∙ sym f
+
+pub matching-one : (naming : Naming) (s count x r r′ : ℕ) → r ≡ matchingBy naming s count x → r′ ≡ matchingBy naming s count x → r ≡ r′
+matching-one naming s count x r r′ e f = e ∙ sym f

@@ -1,0 +1,382 @@
+// Places: a side of a comparison, made of an accepted node table.
+use effect::Checked;
+use effect::Decoded;
+use effect::Node;
+use effect::Refusal;
+ghost use mathlib.Core.Path.{_≡_};
+ghost use mathlib.Core.Bool.{Bool, cond};
+ghost use mathlib.Core.List.{List, _++_};
+ghost use Prim.Native.Nat.{ℕ, _+_, _<_, _≤_};
+ghost use lib.Bits.{bitOr};
+ghost use lib.ListN.{length, getD};
+ghost use Rattle.bits.specs.Bit.{has};
+ghost use Rattle.effect.specs.Node.{decodeOf, decodings};
+ghost use Rattle.effect.specs.Meaning.{at};
+ghost use Rattle.effect.specs.Refusals.{oneIfInstant, instants};
+ghost use Rattle.effect.specs.WellFormed.{WellFormed};
+ghost use Rattle.places.specs.Places.{numberedNode};
+ghost use Rattle.places.specs.Side.{presentIn, absentIn, byPlace, sideOf, noSide, prepareOf, listOf};
+ghost use Rattle.places.specs.Walk.{tableOf, Walkable, Walks, Holds, Numbers, Surveyable};
+ghost use Rattle.places.specs.Matching.{namingTo, bySignal, namingOf, placesTo, without, leftTo, matchingBy};
+
+// What a comparison needs of a side, by place: s, the number of instants, their masks, the places that accept (bit j for
+// place j), and for each place those that may follow. Entries of no place are 0.
+pub struct Side {
+    pub s: u8,
+    pub count: u8,
+    pub present: [u16; 64],
+    pub absent: [u16; 64],
+    pub accepts: u64,
+    pub follow: [u64; 64],
+}
+
+// A side, or the refusal of its table with the side of nothing.
+pub struct Prepared {
+    pub refusal: Refusal,
+    pub side: Side,
+}
+
+// For each signal, the places that name it present and those that name it absent.
+pub struct Naming {
+    pub present: [u64; 16],
+    pub absent: [u64; 16],
+}
+
+// What the walk over a node and all below it answers: whether it has the empty trace, its first and last places, and
+// the follow sets with what these nodes add.
+struct Walked {
+    empty: bool,
+    first: u64,
+    last: u64,
+    follow: [u64; 64],
+}
+
+// The masks of the instants so far, by place, and how many there are.
+struct Masks {
+    count: u8,
+    present: [u16; 64],
+    absent: [u16; 64],
+}
+
+// Node i of a table; past the end, and for a number that stands for none, nil.
+fn node_at(nodes: &[u32], i: usize) -> Node
+    ensures { λ r. ⌜ r ≡ at (tableOf (now (nodes .entry))) i ⌝ }
+{
+    if nodes.len() <= i {
+        return Node::Nil;
+    }
+    match effect::decode(nodes[i]) {
+        Decoded::Is(n) => n,
+        Decoded::None => Node::Nil,
+    }
+}
+
+// x, if b; else the empty set.
+fn only_if(b: bool, x: u64) -> u64
+    ensures { λ r. ⌜ r ≡ cond b x 0 ⌝ }
+{
+    if b { x } else { 0 }
+}
+
+// After each place of `last` the places of `first` may follow too.
+fn join(follow: [u64; 64], last: u64, first: u64) -> [u64; 64]
+    ensures { λ r. ⌜ ((j : ℕ) → j < 64 → getD r j 0 ≡ bitOr (getD follow j 0) (cond (has last j) first 0)) ⌝ }
+{
+    let mut r = follow;
+    let mut j: usize = 0;
+    while j < 64 {
+        r[j] = r[j] | only_if(bits::has(last, j as u64), first);
+        j += 1;
+    }
+    r
+}
+
+// The node i of a numbered table and all below it, each visited once.
+fn walk(nodes: &[u32], i: usize, follow: [u64; 64]) -> Walked
+    requires { ⌜ Walkable (tableOf (now nodes)) ⌝ }
+    ensures { λ r. ⌜ Walks (tableOf (now (nodes .entry))) i follow r ⌝ }
+{
+    match node_at(nodes, i) {
+        Node::Nil => Walked {
+            empty: false,
+            first: 0,
+            last: 0,
+            follow: follow,
+        },
+        Node::Empty => Walked {
+            empty: true,
+            first: 0,
+            last: 0,
+            follow: follow,
+        },
+        Node::Instant(j, _) => {
+            let place = bits::single(j as u64);
+            Walked {
+                empty: false,
+                first: place,
+                last: place,
+                follow: follow,
+            }
+        },
+        Node::Seq(a, b) => {
+            let x = walk(nodes, a as usize, follow);
+            let after_x = x.follow;
+            let y = walk(nodes, b as usize, after_x);
+            let after_y = y.follow;
+            let joined = join(after_y, x.last, y.first);
+            Walked {
+                empty: x.empty & y.empty,
+                first: x.first | only_if(x.empty, y.first),
+                last: y.last | only_if(y.empty, x.last),
+                follow: joined,
+            }
+        },
+        Node::Choice(a, b) => {
+            let x = walk(nodes, a as usize, follow);
+            let after_x = x.follow;
+            let y = walk(nodes, b as usize, after_x);
+            let after_y = y.follow;
+            Walked {
+                empty: x.empty | y.empty,
+                first: x.first | y.first,
+                last: x.last | y.last,
+                follow: after_y,
+            }
+        },
+        Node::Repeat(a) => {
+            let x = walk(nodes, a as usize, follow);
+            let after_x = x.follow;
+            let joined = join(after_x, x.last, x.first);
+            Walked {
+                empty: true,
+                first: x.first,
+                last: x.last,
+                follow: joined,
+            }
+        },
+    }
+}
+
+// The masks with those of one node more.
+fn with_masks(m: Masks, node: Node) -> Masks
+    requires { ⌜ m .count + oneIfInstant node ≤ 63 ⌝ }
+    ensures count { λ r. ⌜ r .count ≡ m .count + oneIfInstant node ⌝ }
+    ensures present { λ r. ⌜ ((xs : List ℕ) → length xs ≡ m .count → m .present ≡ byPlace xs → r .present ≡ byPlace (xs ++ presentIn node)) ⌝ }
+    ensures absent { λ r. ⌜ ((xs : List ℕ) → length xs ≡ m .count → m .absent ≡ byPlace xs → r .absent ≡ byPlace (xs ++ absentIn node)) ⌝ }
+{
+    match node {
+        Node::Nil => m,
+        Node::Empty => m,
+        Node::Instant(p, q) => {
+            let j = m.count + 1;
+            let k = j as usize;
+            let mut present = m.present;
+            present[k] = p;
+            let mut absent = m.absent;
+            absent[k] = q;
+            Masks {
+                count: j,
+                present: present,
+                absent: absent,
+            }
+        },
+        Node::Seq(_, _) => m,
+        Node::Choice(_, _) => m,
+        Node::Repeat(_) => m,
+    }
+}
+
+// The number of a node in the numbered table, x being its number in the table and j its place.
+fn numbered_number(x: u32, node: Node, j: u8) -> u32
+    requires { ⌜ decodeOf x ≡ Decoded.Is node ⌝ }
+    ensures { λ r. ⌜ decodeOf r ≡ Decoded.Is (numberedNode j node) ⌝ }
+{
+    match node {
+        Node::Nil => x,
+        Node::Empty => x,
+        Node::Instant(_, _) => 131072 + j as u32 * 256,
+        Node::Seq(_, _) => x,
+        Node::Choice(_, _) => x,
+        Node::Repeat(_) => x,
+    }
+}
+
+// Numbers the instants: the masks by place, and in `skeleton` the numbered table.
+fn survey(nodes: &[u32], skeleton: &mut [u32]) -> Masks
+    requires { ⌜ Surveyable (now nodes) (length (now skeleton)) ⌝ }
+    ensures masks { λ r. ⌜ Holds (tableOf (now (nodes .entry))) (length (now (nodes .entry))) r ⌝ }
+    ensures numbers { λ r. ⌜ Numbers (tableOf (now (nodes .entry))) (length (now (nodes .entry))) (now (skeleton .exit)) ⌝ }
+{
+    let mut masks = Masks {
+        count: 0,
+        present: [0; 64],
+        absent: [0; 64],
+    };
+    let mut i: usize = 0;
+    while i < nodes.len() {
+        let node = node_at(nodes, i);
+        skeleton[i] = numbered_number(nodes[i], node, masks.count + 1);
+        let next = with_masks(masks, node);
+        masks = next;
+        i += 1;
+    }
+    masks
+}
+
+// The side of an accepted table.
+fn side_of(s: u8, nodes: &[u32]) -> Side
+    requires { ⌜ WellFormed s (decodings (now nodes)) ⌝ }
+    ensures { λ r. ⌜ r ≡ sideOf s (tableOf (now (nodes .entry))) ⌝ }
+{
+    let n = nodes.len();
+    let mut skeleton: [u32; 255] = [0; 255];
+    let masks = survey(nodes, &mut skeleton);
+    let nothing = [0; 64];
+    let w = walk(&skeleton[..n], n - 1, nothing);
+    let mut follow = w.follow;
+    follow[0] = w.first;
+    let present = masks.present;
+    let absent = masks.absent;
+    Side {
+        s: s,
+        count: masks.count,
+        present: present,
+        absent: absent,
+        accepts: w.last | only_if(w.empty, 1),
+        follow: follow,
+    }
+}
+
+// The side of nothing, which goes with a refusal.
+fn no_side() -> Side
+    ensures { λ r. ⌜ r ≡ noSide ⌝ }
+{
+    Side {
+        s: 0,
+        count: 0,
+        present: [0; 64],
+        absent: [0; 64],
+        accepts: 0,
+        follow: [0; 64],
+    }
+}
+
+// Makes a side of a node table, or refuses it (2, 3, 7 to 12).
+pub fn prepare(s: u8, nodes: &[u32]) -> Prepared
+    ensures { λ r. ⌜ r ≡ prepareOf s (now (nodes .entry)) ⌝ }
+{
+    match effect::check(s, nodes) {
+        Checked::Refused(r) => {
+            let side = no_side();
+            Prepared {
+                refusal: r,
+                side: side,
+            }
+        },
+        Checked::Accepted(_) => {
+            let side = side_of(s, nodes);
+            Prepared {
+                refusal: Refusal { number: 0 },
+                side: side,
+            }
+        },
+    }
+}
+
+// The mask of place j; 0 past the end.
+fn mask_at(masks: [u16; 64], j: usize) -> u64
+    ensures { λ r. ⌜ r ≡ getD masks j 0 ⌝ }
+{
+    if j < 64 { masks[j] as u64 } else { 0 }
+}
+
+// The places among 1 to count whose mask names the signal i.
+fn naming_at(masks: [u16; 64], i: u64, count: usize) -> u64
+    requires { ⌜ count < 256 ⌝ }
+    ensures { λ r. ⌜ r ≡ namingTo masks i count ⌝ }
+{
+    let mut r: u64 = 0;
+    let mut k: usize = 0;
+    while k < count {
+        let j = k + 1;
+        let named = bits::has(mask_at(masks, j), i);
+        r = r | only_if(named, bits::single(j as u64));
+        k = j;
+    }
+    r
+}
+
+// For each of 16 signals, the places among 1 to count whose mask names it.
+fn by_signal(masks: [u16; 64], count: usize) -> [u64; 16]
+    requires { ⌜ count < 256 ⌝ }
+    ensures { λ r. ⌜ r ≡ bySignal masks count ⌝ }
+{
+    let mut r: [u64; 16] = [0; 16];
+    let mut i: usize = 0;
+    while i < 16 {
+        r[i] = naming_at(masks, i as u64, count);
+        i += 1;
+    }
+    r
+}
+
+// For each signal, the places that name it present and those that name it absent.
+pub fn naming_of(side: Side) -> Naming
+    ensures { λ r. ⌜ r ≡ namingOf side ⌝ }
+{
+    let count = side.count as usize;
+    let present = side.present;
+    let absent = side.absent;
+    let by_present = by_signal(present, count);
+    let by_absent = by_signal(absent, count);
+    Naming {
+        present: by_present,
+        absent: by_absent,
+    }
+}
+
+// The places 1 to count, of which there are 63 at most.
+fn places_to(count: u8) -> u64
+    ensures { λ r. ⌜ r ≡ placesTo count ⌝ }
+{
+    if count < 63 {
+        bits::single(count as u64 + 1) - 2
+    } else {
+        18446744073709551614
+    }
+}
+
+// The set of signal i; empty past the end.
+fn set_at(sets: [u64; 16], i: usize) -> u64
+    ensures { λ r. ⌜ r ≡ getD sets i 0 ⌝ }
+{
+    if i < 16 { sets[i] } else { 0 }
+}
+
+// The places that signal i takes away from those that match the letter x.
+fn taken_away(naming: Naming, x: u16, i: usize) -> u64
+    ensures { λ r. ⌜ r ≡ cond (has x i) (getD (naming .absent) i 0) (getD (naming .present) i 0) ⌝ }
+{
+    let present = naming.present;
+    let absent = naming.absent;
+    if bits::has(x as u64, i as u64) {
+        set_at(absent, i)
+    } else {
+        set_at(present, i)
+    }
+}
+
+// The places of a side of s signals and count instants that match the letter x.
+pub fn matching(naming: Naming, s: u8, count: u8, x: u16) -> u64
+    ensures { λ r. ⌜ r ≡ matchingBy naming s count x ⌝ }
+{
+    let n = s as usize;
+    let mut r = places_to(count);
+    let mut i: usize = 0;
+    while i < n {
+        let away = taken_away(naming, x, i);
+        r = r ^ (r & away);
+        i += 1;
+    }
+    r
+}
