@@ -1,0 +1,4 @@
+pub mod Goals
+pub mod Run
+pub mod Calls
+pub mod Core
