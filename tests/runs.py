@@ -1,8 +1,9 @@
 #!/usr/bin/env python3
 """A run and its calls, refusals 14 to 18 among them, of document 01, a second time, for tests.
 
-Everything here is written from document 01 alone and shares nothing with the crates. Sides are asked
-of places.py, refusals of a table of sheets.py. Verdicts and traces are held to another method, which
+The rules here are document 01's, and no code is shared with the crates; but this was not written
+blind: the definitions and the code of the crate goals were known. Sides are asked of places.py,
+refusals of a table of sheets.py. Verdicts and traces are held to another method, which
 knows neither places nor rows: derivatives of the effects by letters. What the program try_goals must
 print is made here and never taken from the program.
 
@@ -116,6 +117,10 @@ class Rows:
             if i < len(column):
                 column[i] = x
 
+    def used(self, n):
+        """The first n rows, each with its number."""
+        return zip(range(n), *self.columns)
+
     def room(self, lent):
         return min(lent, MOST_ROOM, *[len(column) for column in self.columns])
 
@@ -130,7 +135,7 @@ class Run:
 
 def clauses_of_16(c, rows, room, run):
     """Each clause of refusal 16 that applies, by its words."""
-    others = [(i, *rows[i]) for i in range(1, min(run.used, room))]
+    others = list(rows.used(min(run.used, room)))[1:]
     clauses = {
         'used is 0': run.used == 0,
         'used is above room': run.used > room,
@@ -172,7 +177,7 @@ def possible(sides, lent, rows, run):
 
 def run_steps(sides, lent, rows, run, budget):
     c, room = possible(sides, lent, rows, run), rows.room(lent)
-    known = {rows[i][:2] for i in range(run.used)}
+    known = {(place, right) for _, place, right, *_ in rows.used(run.used)}
     while budget > 0 and run.outcome in (0, 3):
         step(c, rows, room, run, known)
         budget -= 1
