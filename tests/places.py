@@ -1,7 +1,7 @@
 #!/usr/bin/env python3
 """Places, first, last and follow sets of document 01, a second time, for tests.
 
-Everything here is written from document 01 alone and shares nothing with the crates: a node table
+The rules here are document 01's, and no code is shared with the crates: a node table
 becomes a tree, and a set of places is a set of numbers, gathered from the tree. Whether a table is
 refused is asked of sheets.py. What the program try_places must print is made here and never taken
 from the program.
