@@ -33,13 +33,13 @@ pub lowest-nil : lowest [] ≡ 0
 unfolding lowest
 lowest-nil = refl
 
-pub lowest-skip : (r : ℕ) (rs : List ℕ) → r ≡ 0 → lowest (r ∷ rs) ≡ lowest rs
-unfolding lowest
-lowest-skip r rs h = simp (eq-eqb r 0 h)
-
 pub lowest-head : (r : ℕ) (rs : List ℕ) → (r ≡ 0 → ⊥) → lowest (r ∷ rs) ≡ r
 unfolding lowest
 lowest-head r rs h = simp (ne-eqb r 0 h)
+
+pub lowest-skip : (r : ℕ) (rs : List ℕ) → r ≡ 0 → lowest (r ∷ rs) ≡ lowest rs
+unfolding lowest
+lowest-skip r rs h = simp (eq-eqb r 0 h)
 
 pub lowest-one : (r : ℕ) → lowest (r ∷ []) ≡ r
 unfolding lowest
