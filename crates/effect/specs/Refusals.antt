@@ -2,9 +2,9 @@
 use Prim.Native.Nat.{ℕ, zero, suc, _+_, _-_}
 use mathlib.Core.Path.{_≡_}
 use mathlib.Core.Bool.{Bool, true, false, cond, not, _||_}
-use mathlib.Core.List.{List, [], _∷_}
+use mathlib.Core.List.{List, [], _∷_, _++_}
 use lib.Dec.{ltb, leb, eqb}
-use lib.ListN.{length}
+use lib.ListN.{length, drop}
 use Rattle.bits.specs.Bit.{within}
 use Rattle.effect.specs.declared.Node.{Node}
 use Rattle.effect.specs.declared.Node.the-variants.{Nil, Empty, Instant, Seq, Choice, Repeat}
@@ -126,6 +126,10 @@ pub record Answer : Type 0 where
 
 abbrev pub answered : ℕ → List ℕ → Answer
 answered number values = record { number = number; values = cond (eqb number 0) values [] }
+
+-- a result at the front of what was lent; what lies beyond it stays
+abbrev pub front : List ℕ → List ℕ → List ℕ
+front result lent = result ++ drop (length result) lent
 
 -- the number and values of each case of what `check` answers: the number of instants, or a refusal
 unfoldable pub checked : Checked → Answer

@@ -2,7 +2,7 @@
 -- not settled, and rows are only added.
 use Prim.Native.Nat.{ℕ, zero, suc, _+_, _-_, _^_, _≤_, _<_}
 use mathlib.Core.Path.{_≡_, refl, sym, ap, ap₂, subst, _∙_}
-use mathlib.Core.Bool.{Bool, true, false, cond, _&&_}
+use mathlib.Core.Bool.{Bool, true, false, cond, _&&_, _||_}
 use mathlib.Core.List.{List, [], _∷_, _++_}
 use mathlib.Core.Logic.{⊎-elim}
 use native.Mathlib.Nat.{eq-or-lt-of-le}
@@ -13,13 +13,15 @@ use lib.ListN.{length, getD, take}
 use lib.Seq.{take-length}
 use borrow.Author.Tests.{eq-eqb, ne-eqb, eqb-true, eqb-false}
 use Rattle.places.specs.declared.Side.{Side}
+use Rattle.places.specs.declared.Naming.{Naming}
+use Rattle.places.specs.Matching.{namingOf, matchingBy}
 use Rattle.goals.specs.declared.Row.{Row}
 use Rattle.goals.specs.declared.Run.{Run}
 use Rattle.goals.specs.declared.Letters.{Letters}
 use Rattle.goals.specs.Goals.{rowZero, bad, candidates, Entered, enterAll}
-use Rattle.goals.specs.Run.{State, state, settle, step, steps}
+use Rattle.goals.specs.Run.{State, state, settle, step, steps, run}
 use Rattle.goals.specs.Calls.{Columns, columns, rowsIn, put, recordOf, stateOf}
-use Rattle.goals.specs.Core.{Fits, entering, Ready, Steps}
+use Rattle.goals.specs.Core.{Fits, entering, Ready, Steps, Runnable}
 use Rattle.goals.proofs.Laws.{length-rowsIn, put-put, rows-put, all-grows, fits-put, put-same}
 
 -- the state that columns and record hold
@@ -143,3 +145,37 @@ goes-end left right room budget c₀ c r₀ r g =
     subst (λ (s : State). Steps c₀ c s r)
     (ap (λ (n : ℕ). steps left right room n (stateOf c r)) (let z : 0 ≡ budget - budget = omega arith in z) ∙ g .rest)
     (record { columns = g .columns; now = λ i. record { settled = r .settled; used = sym (length-rowsIn c (r .used)) i; outcome = r .outcome } })
+
+-- ---- a call on two sides
+module _ (c : Columns) (room : ℕ) (left right : Side) (r : Run) (g : Runnable c room left right r) where
+  -- a decided run stays
+  pub run-stays : (budget : ℕ) → (eqb (r .outcome) 1 || eqb (r .outcome) 2) ≡ true → Steps c c (run left right room budget (stateOf c r)) r
+  unfolding run
+  run-stays budget h =
+      subst (λ (st : State). Steps c c st r) (sym (ap (λ (b : Bool). cond b (stateOf c r) (steps left right room budget (stateOf c r))) h))
+      (record {
+        columns = put-same c (r .used) room (g .fits);
+        now = λ i. record { settled = r .settled; used = sym (length-rowsIn c (r .used)) i; outcome = r .outcome };
+      })
+
+  pub run-goes : (budget : ℕ) (c′ : Columns) (w : Run) → (r .outcome ≡ 1 → ⊥) → (r .outcome ≡ 2 → ⊥)
+      → Steps c c′ (steps left right room budget (stateOf c r)) w → Steps c c′ (run left right room budget (stateOf c r)) w
+  unfolding run
+  run-goes budget c′ w a b h =
+      subst (λ (st : State). Steps c c′ st w)
+      (sym (ap₂ (λ (x y : Bool). cond (x || y) (stateOf c r) (steps left right room budget (stateOf c r))) (ne-eqb _ _ a) (ne-eqb _ _ b)))
+      h
+
+  -- with the letters worked out for both sides it can take a step
+  pub run-ready : (on-left on-right : Naming) → on-left ≡ namingOf left → on-right ≡ namingOf right → (r .outcome ≡ 1 → ⊥)
+      → Ready c room left right (record { s = left .s; m = left .count; k = right .count; left = on-left; right = on-right }) r
+  run-ready on-left on-right e f h = record {
+    fits = g .fits;
+    left-over = g .unsettled h;
+    few = g .few;
+    signals = refl;
+    on-left = λ x l. ap (λ (n : Naming). matchingBy n (left .s) (left .count) x) e ∙ g .on-left x l;
+    on-right = λ x l.
+        ap₂ (λ (n : Naming) (s : ℕ). matchingBy n s (right .count) x) f (sym (g .signals))
+        ∙ g .on-right x (subst (λ (s : ℕ). x < 2 ^ s) (sym (g .signals)) l);
+  }

@@ -14,33 +14,17 @@ use lib.ListN.{length, getD, set, take, drop, length-append, length-map, length-
 use lib.Seq.{take-suc, drop-cons, set-append-seam, take-length, drop-drop, drop-append-add, length-take-le, getD-append-seam}
 use Rattle.bits.specs.Bit.{has}
 use borrow.Author.Tests.{eq-eqb, ne-eqb, eqb-true, eqb-false}
-use Rattle.effect.specs.Refusals.{someBelow}
+use Rattle.effect.specs.Refusals.{someBelow, front}
+use Rattle.effect.proofs.Front.{length-front, front-next, front-front, front-taken}
 use Rattle.goals.specs.declared.Row.{Row}
 use Rattle.goals.specs.declared.Entering.{Entering}
 use Rattle.goals.specs.Goals.{row, known, Entered, enter, enterAll, eachMember, eachLetter}
-use Rattle.goals.specs.Calls.{Columns, columns, rowAt, rowsIn, over, put}
+use Rattle.goals.specs.Calls.{Columns, columns, rowAt, rowsIn, put}
 use Rattle.goals.specs.declared.Letters.{Letters}
 use Rattle.places.specs.declared.Side.{Side}
 use Rattle.places.specs.Readings.{spreadTo}
 use Rattle.places.specs.Matching.{matchingBy}
 use Rattle.goals.specs.Core.{Fits, entering, Enters, lettered}
-
--- ---- one column
--- new numbers over newer ones
-over-over : (xs ys d : List ℕ) → length xs ≤ length ys → over ys (over xs d) ≡ over ys d
-over-over xs ys d h = ap (λ (l : List ℕ). ys ++ l)
-    (subst (λ (n : ℕ). drop n (xs ++ drop (length xs) d) ≡ drop n d) (let z : length xs + (length ys - length xs) ≡ length ys = omega arith in z)
-    (drop-append-add xs (drop (length xs) d) (length ys - length xs) ∙ drop-drop (length ys - length xs) (length xs) d))
-
-length-over : (xs d : List ℕ) → length xs ≤ length d → length (over xs d) ≡ length d
-length-over xs d h = simp (length-append, length-drop) (omega arith)
-
--- one number more
-over-next : (xs d : List ℕ) (x : ℕ) → length xs < length d → set (over xs d) (length xs) x ≡ over (xs ++ (x ∷ [])) d
-over-next xs d x h =
-    ap (λ (l : List ℕ). set (xs ++ l) (length xs) x) (drop-cons d (length xs) 0 h)
-    ∙ set-append-seam xs (getD d (length xs) 0) (drop (suc (length xs)) d) x
-    ∙ sym (append-assoc xs (x ∷ []) (drop (length (xs ++ (x ∷ []))) d) ∙ ap (λ (n : ℕ). xs ++ x ∷ drop n d) (length-append xs (x ∷ []) ∙ (let z : length xs + 1 ≡ suc (length xs) = omega arith in z)))
 
 -- ---- rows in columns
 pub length-rowsIn : (c : Columns) (n : ℕ) → length (rowsIn c n) ≡ n
@@ -58,9 +42,6 @@ unfolding rowsIn
 column-taken f col c e zero h = refl
 column-taken f col c e (suc n) h =
     map-snoc f (rowsIn c n) (rowAt c n) ∙ ap₂ (λ (l : List ℕ) (x : ℕ). l ++ (x ∷ [])) (column-taken f col c e n (omega arith)) (e n) ∙ sym (take-suc col n 0 h)
-
-over-taken : (n : ℕ) (d : List ℕ) → n ≤ length d → over (take n d) d ≡ d
-over-taken n d h = ap (λ (k : ℕ). take n d ++ drop k d) (length-take-le n d h) ∙ take-append-drop n d
 
 -- the four columns at once
 columns-eq : {p p′ s s′ q q′ l l′ : List ℕ} → p ≡ p′ → s ≡ s′ → q ≡ q′ → l ≡ l′ → columns p s q l ≡ columns p′ s′ q′ l′
@@ -82,7 +63,7 @@ module _ (c : Columns) (n room : ℕ) (f : Fits c n room) where
   -- the rows that stand there change nothing
   pub put-same : c ≡ put (rowsIn c n) c
   put-same =
-      let same : (xs d : List ℕ) → xs ≡ take n d → n ≤ length d → d ≡ over xs d = λ xs d e h. sym (ap (λ (l : List ℕ). over l d) e ∙ over-taken n d h) in
+      let same : (xs d : List ℕ) → xs ≡ take n d → n ≤ length d → d ≡ front xs d = λ xs d e h. sym (ap (λ (l : List ℕ). front l d) e ∙ front-taken n d h) in
       columns-eq
       (same _ _ place-taken (omega (arith, f .used, f .places)))
       (same _ _ set-taken (omega (arith, f .used, f .sets)))
@@ -99,19 +80,19 @@ module _ (c : Columns) (n room : ℕ) (f : Fits c n room) where
       (next (λ (w : Row). w .parent) (c .parents) parent-taken (omega (arith, f .parents)))
       (next (λ (w : Row). w .letter) (c .letters) letter-taken (omega (arith, f .letters)))
     where
-      next : (g : Row → ℕ) (d : List ℕ) → map g (rowsIn c n) ≡ take n d → n < length d → set d n (g w) ≡ over (map g (rowsIn c n ++ (w ∷ []))) d
+      next : (g : Row → ℕ) (d : List ℕ) → map g (rowsIn c n) ≡ take n d → n < length d → set d n (g w) ≡ front (map g (rowsIn c n ++ (w ∷ []))) d
       next g d e h =
           let size : length (take n d) ≡ n = length-take-le n d (omega arith) in
-          ap₂ (λ (l : List ℕ) (k : ℕ). set l k (g w)) (sym (over-taken n d (omega arith))) (sym size)
-          ∙ over-next (take n d) d (g w) (omega (arith, size))
-          ∙ ap (λ (l : List ℕ). over l d) (sym (map-snoc g (rowsIn c n) w ∙ ap (λ (l : List ℕ). l ++ (g w ∷ [])) e))
+          ap₂ (λ (l : List ℕ) (k : ℕ). set l k (g w)) (sym (front-taken n d (omega arith))) (sym size)
+          ∙ front-next (take n d) d _ (g w) refl (omega (arith, size))
+          ∙ ap (λ (l : List ℕ). front l d) (sym (map-snoc g (rowsIn c n) w ∙ ap (λ (l : List ℕ). l ++ (g w ∷ [])) e))
 
 -- what was put over stays under what is put now
 pub put-put : (rows rows′ : List Row) (c : Columns) → length rows ≤ length rows′ → put rows′ (put rows c) ≡ put rows′ c
 put-put rows rows′ c h = columns-eq (one (λ (w : Row). w .place) (c .places)) (one (λ (w : Row). w .set) (c .sets)) (one (λ (w : Row). w .parent) (c .parents)) (one (λ (w : Row). w .letter) (c .letters))
   where
-    one : (g : Row → ℕ) (d : List ℕ) → over (map g rows′) (over (map g rows) d) ≡ over (map g rows′) d
-    one g d = over-over (map g rows) (map g rows′) d (rw (length-map rows g, length-map rows′ g) h)
+    one : (g : Row → ℕ) (d : List ℕ) → front (map g rows′) (front (map g rows) d) ≡ front (map g rows′) d
+    one g d = front-front (map g rows) (map g rows′) d (rw (length-map rows g, length-map rows′ g) h)
 
 getD-map : (g : Row → ℕ) (ws : List Row) (d : List ℕ) (i : ℕ) → i < length ws → (w : Row) → getD (map g ws ++ d) i 0 ≡ g (getD ws i w)
 getD-map g [] d i h w = absurd (omega arith)
@@ -202,8 +183,8 @@ fits-put c n room f rows h =
       letters = wide (λ (w : Row). w .letter) (c .letters) (f .letters);
     }
   where
-    wide : (g : Row → ℕ) (d : List ℕ) → room ≤ length d → room ≤ length (over (map g rows) d)
-    wide g d l = rw (length-over (map g rows) d (rw (length-map rows g) (omega arith))) l
+    wide : (g : Row → ℕ) (d : List ℕ) → room ≤ length d → room ≤ length (front (map g rows) d)
+    wide g d l = rw (length-front (map g rows) d (rw (length-map rows g) (omega arith))) l
 
 -- ---- one part after another
 module _ (c c′ c″ : Columns) (room used : ℕ) (xs ys : List Row) (r r′ : Entering) (f : Fits c used room) where

@@ -1,3 +1,7 @@
 pub mod Laws
 pub mod Stepping
 pub mod Budget
+pub mod Possible
+pub mod Refusing
+pub mod Climbing
+pub mod Calling

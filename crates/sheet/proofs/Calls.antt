@@ -7,9 +7,9 @@ use native.Mathlib.Omega.{arith}
 use lib.Dec.{ltb}
 use lib.ListN.{length, length-map}
 use Rattle.effect.specs.Node.{decodeOf, decodings}
-use Rattle.effect.specs.Refusals.{rule, sideRefusal, Answer, checkOf}
+use Rattle.effect.specs.Refusals.{rule, sideRefusal, Answer, checkOf, front}
 use Rattle.effect.proofs.Laws.{lowest-skip, lowest-head, lowest-one, side-table}
-use Rattle.sheet.specs.Sheet.{sheetLength, sheetOf, signalsIn, countIn, nodesIn, headerRefusal, readRefusal, writeRefusal, Left, exit, front, left, readOf, writeOf}
+use Rattle.sheet.specs.Sheet.{sheetLength, sheetOf, signalsIn, countIn, nodesIn, headerRefusal, readRefusal, writeRefusal, Left, exit, left, readOf, writeOf}
 use Rattle.sheet.proofs.Front.{left-done, left-refused}
 use Rattle.sheet.proofs.Header.{count-lt, length-nodes}
 use Rattle.sheet.proofs.Accepted.{Fine, header-none, side-none}

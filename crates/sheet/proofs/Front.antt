@@ -1,28 +1,18 @@
--- A result put at the front of what was lent, entry after entry: one more entry stored is the front of a result one
--- longer, and what lies beyond stays. And what a call leaves: that front where it accepts, all as it was where it refuses.
-use Prim.Native.Nat.{ℕ, suc, _+_, _*_, _≤_, _<_}
-use mathlib.Core.Path.{_≡_, sym, ap, _∙_}
-use mathlib.Core.List.{List, [], _∷_, _++_}
+-- Fields put at the front of what was lent, one after another. And what a call leaves: that front where it accepts, all as
+-- it was where it refuses.
+use Prim.Native.Nat.{ℕ, _+_, _*_, _<_}
+use mathlib.Core.Path.{_≡_, ap}
+use mathlib.Core.List.{List, []}
 use native.Mathlib.Numerals.{add-one}
-use native.Mathlib.Omega.{arith}
-use lib.ListN.{length, getD, drop, set, length-append, length-drop}
-use lib.Seq.{drop-cons, set-at, append-snoc}
+use lib.ListN.{length, set}
 use borrow.Author.Tests.{ne-eqb}
 use Rattle.sheet.specs.Bits.{field, fields}
-use Rattle.sheet.specs.Sheet.{Left, exit, front, left}
+use Rattle.effect.specs.Refusals.{front}
+use Rattle.sheet.specs.Sheet.{Left, exit, left}
+use Rattle.effect.proofs.Front.{front-next}
 use Rattle.sheet.proofs.Fields.{length-fields}
 
-pub length-front : (xs lent : List ℕ) → length xs ≤ length lent → length (front xs lent) ≡ length lent
-length-front xs lent h = length-append xs (drop (length xs) lent) ∙ omega (arith, length-drop (length xs) lent)
-
-pub front-next : (xs lent : List ℕ) (k x : ℕ) → length xs ≡ k → k < length lent → set (front xs lent) k x ≡ front (xs ++ (x ∷ [])) lent
-front-next xs lent k x e h =
-    ap (λ (l : List ℕ). set (xs ++ l) k x) (drop-cons lent (length xs) 0 (omega arith))
-    ∙ set-at xs (getD lent (length xs) 0) (drop (suc (length xs)) lent) x k e
-    ∙ sym (append-snoc xs x (drop (suc (length xs)) lent))
-    ∙ ap (λ (n : ℕ). (xs ++ (x ∷ [])) ++ drop n lent) (let z : suc (length xs) ≡ length (xs ++ (x ∷ [])) = omega (arith, length-append xs (x ∷ [])) in z)
-
--- the same where the result is a row of fields, k of which are put: what a loop over k does
+-- one field more at the front, where the result is a row of fields, k of which are put: what a loop over k does
 pub front-field :
     (bs : List ℕ) (o w : ℕ) (lent now : List ℕ) (k p x : ℕ)
     → k < length lent

@@ -7,10 +7,10 @@ use native.Mathlib.Omega.{arith}
 use lib.ListN.{length, getD, take}
 use lib.Seq.{take-at}
 use Rattle.effect.specs.Node.{decodings}
-use Rattle.effect.specs.Refusals.{tableRefusal}
+use Rattle.effect.specs.Refusals.{tableRefusal, front}
 use Rattle.sheet.specs.declared.Reading.the-variants as reading-variants
 use Rattle.sheet.specs.declared.Writing.the-variants as writing-variants
-use Rattle.sheet.specs.Sheet.{sheetLength, sheetOf, signalsIn, countIn, nodesIn, readRefusal, Left, front, left, reading, readOf, writing, writeOf, Reads, Writes}
+use Rattle.sheet.specs.Sheet.{sheetLength, sheetOf, signalsIn, countIn, nodesIn, readRefusal, Left, left, reading, readOf, writing, writeOf, Reads, Writes}
 use Rattle.sheet.specs.RoundTrip.{Bytes, SheetAgain, TableAgain}
 use Rattle.sheet.proofs.Front.{done, left-done}
 use Rattle.sheet.proofs.Header.{length-nodes}

@@ -8,7 +8,8 @@ use Rattle.sheet.specs.declared.Reading.{Reading}
 use Rattle.sheet.specs.declared.Reading.the-variants as reading-variants
 use Rattle.sheet.specs.declared.Writing.{Writing}
 use Rattle.sheet.specs.declared.Writing.the-variants as writing-variants
-use Rattle.sheet.specs.Sheet.{Reads, Writes, front}
+use Rattle.effect.specs.Refusals.{front}
+use Rattle.sheet.specs.Sheet.{Reads, Writes}
 
 -- every entry is a byte, as those of a `&[u8]` are
 abbrev pub Bytes : List ℕ → Type 0

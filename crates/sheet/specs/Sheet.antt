@@ -4,9 +4,9 @@ use mathlib.Core.Path.{_≡_}
 use mathlib.Core.Bool.{Bool, cond, not}
 use mathlib.Core.List.{List, [], _∷_, _++_}
 use lib.Dec.{ltb, eqb}
-use lib.ListN.{length, getD, drop, replicate}
+use lib.ListN.{length, getD, replicate}
 use Rattle.effect.specs.Node.{decodings}
-use Rattle.effect.specs.Refusals.{rule, lowest, someBelow, tableRefusal, sideRefusal, Answer, answered}
+use Rattle.effect.specs.Refusals.{rule, lowest, someBelow, tableRefusal, sideRefusal, Answer, answered, front}
 use Rattle.sheet.specs.declared.Reading.{Reading}
 use Rattle.sheet.specs.declared.Reading.the-variants as reading-variants
 use Rattle.sheet.specs.declared.Writing.{Writing}
@@ -88,11 +88,8 @@ pub record Left : Type 0 where
 abbrev pub exit : Answer → List ℕ → Left
 exit a l = record { answer = a; lent = l }
 
--- the result at the front of what was lent; "leave what lies beyond their result unchanged"
-abbrev pub front : List ℕ → List ℕ → List ℕ
-front result lent = result ++ drop (length result) lent
-
--- "A refusal changes no lent buffer, table or record."
+-- "A refusal changes no lent buffer, table or record"; else the result is at the front, and reader and writer "leave what lies
+-- beyond their result unchanged"
 abbrev pub left : ℕ → List ℕ → List ℕ → List ℕ → Left
 left refusal values result lent = exit (answered refusal values) (cond (eqb refusal 0) (front result lent) lent)
 

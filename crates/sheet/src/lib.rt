@@ -6,9 +6,9 @@ ghost use mathlib.Core.List.{[], _∷_};
 ghost use Prim.Native.Nat.{_*_, _<_, _≤_};
 ghost use lib.Dec.{ltb};
 ghost use lib.ListN.{length, getD};
-ghost use Rattle.effect.specs.Refusals.{rule};
+ghost use Rattle.effect.specs.Refusals.{rule, front};
 ghost use Rattle.sheet.specs.Bits.{each, field, fields};
-ghost use Rattle.sheet.specs.Sheet.{sheetLength, sheetBits, headerRefusal, exit, front, left, sheetOf, writing, Reads, Writes};
+ghost use Rattle.sheet.specs.Sheet.{sheetLength, sheetBits, headerRefusal, exit, left, sheetOf, writing, Reads, Writes};
 
 // What reading a sheet answers: s and the number of nodes, or the refusal.
 pub enum Reading {

@@ -8,7 +8,9 @@ use Rattle.goals.proofs.enter_goal.Statement.{statement}
 use Rattle.goals.proofs.enter_goal.Tie as tie
 
 is-known-requires : tie.Need-is-known-requires
-is-known-requires c κs = let s = c .before .before .before .before .before .before in (omega (arith, s .pre .used, s .pre .places), omega (arith, s .pre .used, s .pre .sets))
+is-known-requires c κs =
+    let s = c .before .before .before .before .before .before in
+    (omega (arith, s .pre .used, s .pre .places), omega (arith, s .pre .used, s .pre .sets))
 
 same-length : tie.Need-same-length
 same-length c = search needs
@@ -17,7 +19,14 @@ same-length-2 : tie.Need-same-length-2
 same-length-2 c = search needs
 
 returns : tie.Need-returns
-returns c = let s = c .before .before .before .before .before .before .before .before in let a = s .args in enters-known (columns (a .places .now) (a .sets .now) (a .parents .now) (a .letters .now)) (a .used) (a .room) (s .pre) (a .goal) (sym (known-some (a .goal) (columns (a .places .now) (a .sets .now) (a .parents .now) (a .letters .now)) (a .used)) ∙ sym (c .before .is-known .ensures) ∙ c .if1 .taken)
+returns c =
+    let s = c .before .before .before .before .before .before .before .before in
+    let a = s .args in
+    enters-known
+    (columns (a .places .now) (a .sets .now) (a .parents .now) (a .letters .now)) (a .used) (a .room) (s .pre) (a .goal)
+    (sym (known-some (a .goal) (columns (a .places .now) (a .sets .now) (a .parents .now) (a .letters .now)) (a .used))
+    ∙ sym (c .before .is-known .ensures)
+    ∙ c .if1 .taken)
 
 same-length-3 : tie.Need-same-length-3
 same-length-3 c = search needs
@@ -26,7 +35,15 @@ same-length-4 : tie.Need-same-length-4
 same-length-4 c = search needs
 
 returns-2 : tie.Need-returns-2
-returns-2 c = let s = c .before .before .before .before .before .before .before .before .before in let a = s .args in enters-full (columns (a .places .now) (a .sets .now) (a .parents .now) (a .letters .now)) (a .used) (a .room) (s .pre) (a .goal) (sym (known-some (a .goal) (columns (a .places .now) (a .sets .now) (a .parents .now) (a .letters .now)) (a .used)) ∙ sym (c .before .before .is-known .ensures) ∙ c .before .if1 .left) (c .if2 .taken)
+returns-2 c =
+    let s = c .before .before .before .before .before .before .before .before .before in
+    let a = s .args in
+    enters-full
+    (columns (a .places .now) (a .sets .now) (a .parents .now) (a .letters .now)) (a .used) (a .room) (s .pre) (a .goal)
+    (sym (known-some (a .goal) (columns (a .places .now) (a .sets .now) (a .parents .now) (a .letters .now)) (a .used))
+    ∙ sym (c .before .before .is-known .ensures)
+    ∙ c .before .if1 .left)
+    (c .if2 .taken)
 
 slice-write-places : tie.Need-slice-write-places
 slice-write-places c = search needs
@@ -65,7 +82,15 @@ same-length-8 : tie.Need-same-length-8
 same-length-8 c = search needs
 
 returns-3 : tie.Need-returns-3
-returns-3 c = let s = c .before .before .before .before .before .before .before .before .before in let a = s .args in enters-next (columns (a .places .now) (a .sets .now) (a .parents .now) (a .letters .now)) (a .used) (a .room) (s .pre) (a .goal) (sym (known-some (a .goal) (columns (a .places .now) (a .sets .now) (a .parents .now) (a .letters .now)) (a .used)) ∙ sym (c .before .before .is-known .ensures) ∙ c .before .if1 .left) (c .if2 .left)
+returns-3 c =
+    let s = c .before .before .before .before .before .before .before .before .before in
+    let a = s .args in
+    enters-next
+    (columns (a .places .now) (a .sets .now) (a .parents .now) (a .letters .now)) (a .used) (a .room) (s .pre) (a .goal)
+    (sym (known-some (a .goal) (columns (a .places .now) (a .sets .now) (a .parents .now) (a .letters .now)) (a .used))
+    ∙ sym (c .before .before .is-known .ensures)
+    ∙ c .before .if1 .left)
+    (c .if2 .left)
 
 pub enter-goal-spec : {M : Type 1} → statement M
 enter-goal-spec =

@@ -25,10 +25,20 @@ same-length-4 : tie.Need-same-length-4
 same-length-4 c = search needs
 
 returns : tie.Need-returns
-returns c = enters-if _ _ _ _ _ _ _ (sym (c .before .before .before .before .before .before .before .before .before .before .before .before .before .before .has .ensures) ∙ c .before .before .before .before .before .before .before .before .before .before .before .before .before .if1 .taken) (c .before .before .before .before .before .before .before .before .enter-goal .ensures)
+returns c =
+    enters-if
+    _ _ _ _ _ _ _
+    (sym (c .before .before .before .before .before .before .before .before .before .before .before .before .before .before .has .ensures)
+    ∙ c .before .before .before .before .before .before .before .before .before .before .before .before .before .if1 .taken)
+    (c .before .before .before .before .before .before .before .before .enter-goal .ensures)
 
 returns-2 : tie.Need-returns-2
-returns-2 c = let s = c .before .before .before .before .before .before in let a = s .args in enters-if-not _ _ _ _ _ _ _ (sym (c .before .has .ensures) ∙ c .if1 .left) (enters-none (columns (a .places .now) (a .sets .now) (a .parents .now) (a .letters .now)) (a .used) (a .room) (s .pre) (a .goal))
+returns-2 c =
+    let s = c .before .before .before .before .before .before in
+    let a = s .args in
+    enters-if-not
+    _ _ _ _ _ _ _ (sym (c .before .has .ensures) ∙ c .if1 .left)
+    (enters-none (columns (a .places .now) (a .sets .now) (a .parents .now) (a .letters .now)) (a .used) (a .room) (s .pre) (a .goal))
 
 pub enter-if-spec : {M : Type 1} → statement M
 enter-if-spec =

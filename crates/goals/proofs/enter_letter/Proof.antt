@@ -28,7 +28,14 @@ same-length-4 : tie.Need-same-length-4
 same-length-4 c = search needs
 
 returns : tie.Need-returns
-returns c = let a = c .before .before .before .before .before .before .before .before .before .before .before .before .before .before .before .before .before .before .before .before .before .args in lettered-by _ _ (a .room) (a .follow) (a .spread) (a .parent) (a .x) _ _ (a .ls) (entering (rowsIn (columns (a .places .now) (a .sets .now) (a .parents .now) (a .letters .now)) (a .used))) _ (c .before .before .before .before .before .before .before .before .before .before .before .before .before .before .matching .ensures) (c .before .before .before .before .before .before .before .before .before .before .before .before .before .matching2 .ensures) (c .before .before .before .before .before .before .before .before .enter-members .ensures)
+returns c =
+    let a = c .before .before .before .before .before .before .before .before .before .before .before .before .before .before .before .before .before .before .before .before .before .args in
+    lettered-by
+    _ _ (a .room) (a .follow) (a .spread) (a .parent) (a .x) _ _ (a .ls)
+    (entering (rowsIn (columns (a .places .now) (a .sets .now) (a .parents .now) (a .letters .now)) (a .used))) _
+    (c .before .before .before .before .before .before .before .before .before .before .before .before .before .before .matching .ensures)
+    (c .before .before .before .before .before .before .before .before .before .before .before .before .before .matching2 .ensures)
+    (c .before .before .before .before .before .before .before .before .enter-members .ensures)
 
 pub enter-letter-spec : {M : Type 1} → statement M
 enter-letter-spec =

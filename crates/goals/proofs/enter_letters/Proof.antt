@@ -39,13 +39,36 @@ shl-n c = search needs
 
 loop-holds : tie.Need-loop-holds Inv-loop μ-loop
 unfolding eachLetter enterAll
-loop-holds c = let s = c .before .before .before .before .before in let a = s .args in (search needs, shl-one 32 (a .ls .s) (omega (arith, s .pre .1)), refl, refl, refl, refl, enters-none (columns (a .places .now) (a .sets .now) (a .parents .now) (a .letters .now)) (a .used) (a .room) (s .pre .0) (row 0 0 0 0))
+loop-holds c =
+    let s = c .before .before .before .before .before in
+    let a = s .args in
+    (
+      search needs,
+      shl-one 32 (a .ls .s) (omega (arith, s .pre .1)),
+      refl,
+      refl,
+      refl,
+      refl,
+      enters-none (columns (a .places .now) (a .sets .now) (a .parents .now) (a .letters .now)) (a .used) (a .room) (s .pre .0) (row 0 0 0 0),
+    )
 
 cast-enter-letter : tie.Need-cast-enter-letter Inv-loop μ-loop
-cast-enter-letter c = let l = c .before .before .before .before .before in let s = l .before .before .before .before .before .before in record { fits = letter-fits (s .args .ls .s) (l .loop .x) (s .pre .1) (omega (arith, c .before .before .before .before .loop-test .taken, l .loop .inv .1)) }
+cast-enter-letter c =
+    let l = c .before .before .before .before .before in
+    let s = l .before .before .before .before .before .before in
+    record { fits = letter-fits (s .args .ls .s) (l .loop .x) (s .pre .1) (omega (arith, c .before .before .before .before .loop-test .taken, l .loop .inv .1)) }
 
 enter-letter-requires : tie.Need-enter-letter-requires Inv-loop μ-loop
-enter-letter-requires c κs = let l = c .before .before .before .before .before in let s = l .before .before .before .before .before .before in let a = s .args in fits-first (columns (a .places .now) (a .sets .now) (a .parents .now) (a .letters .now)) (columns (l .loop .places) (l .loop .sets) (l .loop .parents) (l .loop .letters)) (columns (l .loop .places) (l .loop .sets) (l .loop .parents) (l .loop .letters)) (a .room) (a .used) (eachLetter (lettered (a .ls) (a .follow) (a .spread) (a .parent)) (l .loop .x)) [] (entered (l .loop .u) false) (entered (l .loop .u) false) (s .pre .0) (l .loop .inv .6)
+enter-letter-requires c κs =
+    let l = c .before .before .before .before .before in
+    let s = l .before .before .before .before .before .before in
+    let a = s .args in
+    fits-first
+    (columns (a .places .now) (a .sets .now) (a .parents .now) (a .letters .now))
+    (columns (l .loop .places) (l .loop .sets) (l .loop .parents) (l .loop .letters))
+    (columns (l .loop .places) (l .loop .sets) (l .loop .parents) (l .loop .letters)) (a .room) (a .used)
+    (eachLetter (lettered (a .ls) (a .follow) (a .spread) (a .parent)) (l .loop .x)) [] (entered (l .loop .u) false)
+    (entered (l .loop .u) false) (s .pre .0) (l .loop .inv .6)
 
 -- the goals of the letters up to x stand in the columns
 more : (c : tie.After-slice-known8 Inv-loop μ-loop)
@@ -62,19 +85,57 @@ more c =
     enters-then (columns (a .places .now) (a .sets .now) (a .parents .now) (a .letters .now)) (columns (l .loop .places) (l .loop .sets) (l .loop .parents) (l .loop .letters)) (columns (e .last .0) (e .last .1 .0) (e .last .1 .1 .0) (e .last .1 .1 .1 .0)) (a .room) (a .used) (eachLetter (lettered (a .ls) (a .follow) (a .spread) (a .parent)) (l .loop .x)) _ (entered (l .loop .u) false) (e .result) (s .pre .0) (l .loop .inv .6) refl (e .ensures)
 
 same-length : tie.Need-same-length Inv-loop μ-loop
-same-length c = let l = c .before .before .before .before .before .before .before .before .before .before .before .before .before .before .before in let s = l .before .before .before .before .before .before in let a = s .args in let v = l .loop .inv in let e = c .before .before .before .before .before .before .before .before .before .enter-letter in c .before .before .before .before .before .before .before .before .before .enter-letter .kept .0 ∙ v .2
+same-length c =
+    let l = c .before .before .before .before .before .before .before .before .before .before .before .before .before .before .before in
+    let s = l .before .before .before .before .before .before in
+    let a = s .args in
+    let v = l .loop .inv in
+    let e = c .before .before .before .before .before .before .before .before .before .enter-letter in
+    c .before .before .before .before .before .before .before .before .before .enter-letter .kept .0 ∙ v .2
 
 same-length-2 : tie.Need-same-length-2 Inv-loop μ-loop
-same-length-2 c = let l = c .before .before .before .before .before .before .before .before .before .before .before .before .before .before .before in let s = l .before .before .before .before .before .before in let a = s .args in let v = l .loop .inv in let e = c .before .before .before .before .before .before .before .before .before .enter-letter in c .before .before .before .before .before .before .before .before .before .enter-letter .kept .1 .0 ∙ v .3
+same-length-2 c =
+    let l = c .before .before .before .before .before .before .before .before .before .before .before .before .before .before .before in
+    let s = l .before .before .before .before .before .before in
+    let a = s .args in
+    let v = l .loop .inv in
+    let e = c .before .before .before .before .before .before .before .before .before .enter-letter in
+    c .before .before .before .before .before .before .before .before .before .enter-letter .kept .1 .0 ∙ v .3
 
 same-length-3 : tie.Need-same-length-3 Inv-loop μ-loop
-same-length-3 c = let l = c .before .before .before .before .before .before .before .before .before .before .before .before .before .before .before in let s = l .before .before .before .before .before .before in let a = s .args in let v = l .loop .inv in let e = c .before .before .before .before .before .before .before .before .before .enter-letter in c .before .before .before .before .before .before .before .before .before .enter-letter .kept .1 .1 .0 ∙ v .4
+same-length-3 c =
+    let l = c .before .before .before .before .before .before .before .before .before .before .before .before .before .before .before in
+    let s = l .before .before .before .before .before .before in
+    let a = s .args in
+    let v = l .loop .inv in
+    let e = c .before .before .before .before .before .before .before .before .before .enter-letter in
+    c .before .before .before .before .before .before .before .before .before .enter-letter .kept .1 .1 .0 ∙ v .4
 
 same-length-4 : tie.Need-same-length-4 Inv-loop μ-loop
-same-length-4 c = let l = c .before .before .before .before .before .before .before .before .before .before .before .before .before .before .before in let s = l .before .before .before .before .before .before in let a = s .args in let v = l .loop .inv in let e = c .before .before .before .before .before .before .before .before .before .enter-letter in c .before .before .before .before .before .before .before .before .before .enter-letter .kept .1 .1 .1 .0 ∙ v .5
+same-length-4 c =
+    let l = c .before .before .before .before .before .before .before .before .before .before .before .before .before .before .before in
+    let s = l .before .before .before .before .before .before in
+    let a = s .args in
+    let v = l .loop .inv in
+    let e = c .before .before .before .before .before .before .before .before .before .enter-letter in
+    c .before .before .before .before .before .before .before .before .before .enter-letter .kept .1 .1 .1 .0 ∙ v .5
 
 returns : tie.Need-returns Inv-loop μ-loop
-returns c = let l = c .before .before .before .before .before .before .before .before .before .before .before .before .before .before .before in let s = l .before .before .before .before .before .before in let a = s .args in let v = l .loop .inv in let e = c .before .before .before .before .before .before .before .before .before .enter-letter in let q = letter-parts (lettered (a .ls) (a .follow) (a .spread) (a .parent)) (suc (l .loop .x)) (2 ^ (a .ls .s)) (omega (arith, c .before .before .before .before .before .before .before .before .before .before .before .before .before .before .loop-test .taken, v .1)) in rw (q .1) (enters-stop (columns (a .places .now) (a .sets .now) (a .parents .now) (a .letters .now)) (columns (e .last .0) (e .last .1 .0) (e .last .1 .1 .0) (e .last .1 .1 .1 .0)) (columns (e .last .0) (e .last .1 .0) (e .last .1 .1 .0) (e .last .1 .1 .1 .0)) (a .room) (a .used) (eachLetter (lettered (a .ls) (a .follow) (a .spread) (a .parent)) (suc (l .loop .x))) (q .0) (e .result) (e .result) (s .pre .0) (more (c .before)) (c .if1 .taken))
+returns c =
+    let l = c .before .before .before .before .before .before .before .before .before .before .before .before .before .before .before in
+    let s = l .before .before .before .before .before .before in
+    let a = s .args in
+    let v = l .loop .inv in
+    let e = c .before .before .before .before .before .before .before .before .before .enter-letter in
+    let q = letter-parts (lettered (a .ls) (a .follow) (a .spread) (a .parent)) (suc (l .loop .x)) (2 ^ (a .ls .s)) (omega (arith, c .before .before .before .before .before .before .before .before .before .before .before .before .before .before .loop-test .taken, v .1)) in
+    rw
+    (q .1)
+    (enters-stop
+    (columns (a .places .now) (a .sets .now) (a .parents .now) (a .letters .now))
+    (columns (e .last .0) (e .last .1 .0) (e .last .1 .1 .0) (e .last .1 .1 .1 .0))
+    (columns (e .last .0) (e .last .1 .0) (e .last .1 .1 .0) (e .last .1 .1 .1 .0)) (a .room) (a .used)
+    (eachLetter (lettered (a .ls) (a .follow) (a .spread) (a .parent)) (suc (l .loop .x))) (q .0) (e .result) (e .result) (s .pre .0)
+    (more (c .before)) (c .if1 .taken))
 
 add-x : tie.Need-add-x Inv-loop μ-loop
 add-x c = search needs
@@ -83,7 +144,21 @@ loop-less : tie.Need-loop-less Inv-loop μ-loop
 loop-less c = search needs
 
 loop-again : tie.Need-loop-again Inv-loop μ-loop
-loop-again c = let l = c .before .before .before .before .before .before .before .before .before .before .before .before .before .before .before in let s = l .before .before .before .before .before .before in let a = s .args in let v = l .loop .inv in let e = c .before .before .before .before .before .before .before .before .before .enter-letter in (omega (arith, c .before .before .before .before .before .before .before .before .before .before .before .before .before .before .loop-test .taken), v .1, e .kept .0 ∙ v .2, e .kept .1 .0 ∙ v .3, e .kept .1 .1 .0 ∙ v .4, e .kept .1 .1 .1 .0 ∙ v .5, rw add-one (enters-open _ _ _ _ (more (c .before)) (c .if1 .left)))
+loop-again c =
+    let l = c .before .before .before .before .before .before .before .before .before .before .before .before .before .before .before in
+    let s = l .before .before .before .before .before .before in
+    let a = s .args in
+    let v = l .loop .inv in
+    let e = c .before .before .before .before .before .before .before .before .before .enter-letter in
+    (
+      omega (arith, c .before .before .before .before .before .before .before .before .before .before .before .before .before .before .loop-test .taken),
+      v .1,
+      e .kept .0 ∙ v .2,
+      e .kept .1 .0 ∙ v .3,
+      e .kept .1 .1 .0 ∙ v .4,
+      e .kept .1 .1 .1 .0 ∙ v .5,
+      rw add-one (enters-open _ _ _ _ (more (c .before)) (c .if1 .left)),
+    )
 
 same-length-5 : tie.Need-same-length-5 Inv-loop μ-loop
 same-length-5 c = search needs
@@ -98,7 +173,12 @@ same-length-8 : tie.Need-same-length-8 Inv-loop μ-loop
 same-length-8 c = search needs
 
 returns-2 : tie.Need-returns-2 Inv-loop μ-loop
-returns-2 c = let l = c .before in let a = l .before .before .before .before .before .before .args in subst (λ (n : ℕ). Enters (columns (a .places .now) (a .sets .now) (a .parents .now) (a .letters .now)) (columns (l .loop .places) (l .loop .sets) (l .loop .parents) (l .loop .letters)) (enterAll (a .room) (eachLetter (lettered (a .ls) (a .follow) (a .spread) (a .parent)) n) (entering (rowsIn (columns (a .places .now) (a .sets .now) (a .parents .now) (a .letters .now)) (a .used)))) (entered (l .loop .u) false)) (omega (arith, l .loop .inv .1, l .loop .inv .0)) (l .loop .inv .6)
+returns-2 c =
+    let l = c .before in
+    let a = l .before .before .before .before .before .before .args in
+    subst
+    (λ (n : ℕ). Enters (columns (a .places .now) (a .sets .now) (a .parents .now) (a .letters .now)) (columns (l .loop .places) (l .loop .sets) (l .loop .parents) (l .loop .letters)) (enterAll (a .room) (eachLetter (lettered (a .ls) (a .follow) (a .spread) (a .parent)) n) (entering (rowsIn (columns (a .places .now) (a .sets .now) (a .parents .now) (a .letters .now)) (a .used)))) (entered (l .loop .u) false))
+    (omega (arith, l .loop .inv .1, l .loop .inv .0)) (l .loop .inv .6)
 
 pub enter-letters-spec : {M : Type 1} → statement M
 enter-letters-spec =

@@ -32,10 +32,30 @@ abbrev μ-loop : tie.MeasureT-loop
 
 loop-holds : tie.Need-loop-holds Inv-loop μ-loop
 unfolding eachMember enterAll
-loop-holds c = let s = c .before .before .before .before in let a = s .args in (search needs, refl, refl, refl, refl, enters-none (columns (a .places .now) (a .sets .now) (a .parents .now) (a .letters .now)) (a .used) (a .room) (s .pre) (a .goal))
+loop-holds c =
+    let s = c .before .before .before .before in
+    let a = s .args in
+    (
+      search needs,
+      refl,
+      refl,
+      refl,
+      refl,
+      enters-none (columns (a .places .now) (a .sets .now) (a .parents .now) (a .letters .now)) (a .used) (a .room) (s .pre) (a .goal),
+    )
 
 enter-if-requires : tie.Need-enter-if-requires Inv-loop μ-loop
-enter-if-requires c κs = let l = c .before .before .before .before .before in let s = l .before .before .before .before .before in let a = s .args in let v = l .loop .inv in fits-first (columns (a .places .now) (a .sets .now) (a .parents .now) (a .letters .now)) (columns (l .loop .places) (l .loop .sets) (l .loop .parents) (l .loop .letters)) (columns (l .loop .places) (l .loop .sets) (l .loop .parents) (l .loop .letters)) (a .room) (a .used) (eachMember (a .members) (λ (k : ℕ). row k (a .goal .set) (a .goal .parent) (a .goal .letter)) (l .loop .j)) [] (entered (l .loop .u) false) (entered (l .loop .u) false) (s .pre) (v .5)
+enter-if-requires c κs =
+    let l = c .before .before .before .before .before in
+    let s = l .before .before .before .before .before in
+    let a = s .args in
+    let v = l .loop .inv in
+    fits-first
+    (columns (a .places .now) (a .sets .now) (a .parents .now) (a .letters .now))
+    (columns (l .loop .places) (l .loop .sets) (l .loop .parents) (l .loop .letters))
+    (columns (l .loop .places) (l .loop .sets) (l .loop .parents) (l .loop .letters)) (a .room) (a .used)
+    (eachMember (a .members) (λ (k : ℕ). row k (a .goal .set) (a .goal .parent) (a .goal .letter)) (l .loop .j)) []
+    (entered (l .loop .u) false) (entered (l .loop .u) false) (s .pre) (v .5)
 
 -- the goals of the members up to j stand in the columns
 more : (c : tie.After-slice-known8 Inv-loop μ-loop)
@@ -52,19 +72,53 @@ more c =
     enters-then (columns (a .places .now) (a .sets .now) (a .parents .now) (a .letters .now)) (columns (l .loop .places) (l .loop .sets) (l .loop .parents) (l .loop .letters)) (columns (e .last .0) (e .last .1 .0) (e .last .1 .1 .0) (e .last .1 .1 .1 .0)) (a .room) (a .used) (eachMember (a .members) (λ (k : ℕ). row k (a .goal .set) (a .goal .parent) (a .goal .letter)) (l .loop .j)) _ (entered (l .loop .u) false) (e .result) (s .pre) (l .loop .inv .5) refl (e .ensures)
 
 same-length : tie.Need-same-length Inv-loop μ-loop
-same-length c = let l = c .before .before .before .before .before .before .before .before .before .before .before .before .before .before .before in let s = l .before .before .before .before .before in let a = s .args in let v = l .loop .inv in c .before .before .before .before .before .before .before .before .before .enter-if .kept .0 ∙ v .1
+same-length c =
+    let l = c .before .before .before .before .before .before .before .before .before .before .before .before .before .before .before in
+    let s = l .before .before .before .before .before in
+    let a = s .args in
+    let v = l .loop .inv in
+    c .before .before .before .before .before .before .before .before .before .enter-if .kept .0 ∙ v .1
 
 same-length-2 : tie.Need-same-length-2 Inv-loop μ-loop
-same-length-2 c = let l = c .before .before .before .before .before .before .before .before .before .before .before .before .before .before .before in let s = l .before .before .before .before .before in let a = s .args in let v = l .loop .inv in c .before .before .before .before .before .before .before .before .before .enter-if .kept .1 .0 ∙ v .2
+same-length-2 c =
+    let l = c .before .before .before .before .before .before .before .before .before .before .before .before .before .before .before in
+    let s = l .before .before .before .before .before in
+    let a = s .args in
+    let v = l .loop .inv in
+    c .before .before .before .before .before .before .before .before .before .enter-if .kept .1 .0 ∙ v .2
 
 same-length-3 : tie.Need-same-length-3 Inv-loop μ-loop
-same-length-3 c = let l = c .before .before .before .before .before .before .before .before .before .before .before .before .before .before .before in let s = l .before .before .before .before .before in let a = s .args in let v = l .loop .inv in c .before .before .before .before .before .before .before .before .before .enter-if .kept .1 .1 .0 ∙ v .3
+same-length-3 c =
+    let l = c .before .before .before .before .before .before .before .before .before .before .before .before .before .before .before in
+    let s = l .before .before .before .before .before in
+    let a = s .args in
+    let v = l .loop .inv in
+    c .before .before .before .before .before .before .before .before .before .enter-if .kept .1 .1 .0 ∙ v .3
 
 same-length-4 : tie.Need-same-length-4 Inv-loop μ-loop
-same-length-4 c = let l = c .before .before .before .before .before .before .before .before .before .before .before .before .before .before .before in let s = l .before .before .before .before .before in let a = s .args in let v = l .loop .inv in c .before .before .before .before .before .before .before .before .before .enter-if .kept .1 .1 .1 .0 ∙ v .4
+same-length-4 c =
+    let l = c .before .before .before .before .before .before .before .before .before .before .before .before .before .before .before in
+    let s = l .before .before .before .before .before in
+    let a = s .args in
+    let v = l .loop .inv in
+    c .before .before .before .before .before .before .before .before .before .enter-if .kept .1 .1 .1 .0 ∙ v .4
 
 returns : tie.Need-returns Inv-loop μ-loop
-returns c = let l = c .before .before .before .before .before .before .before .before .before .before .before .before .before .before .before in let s = l .before .before .before .before .before in let a = s .args in let v = l .loop .inv in let e = c .before .before .before .before .before .before .before .before .before .enter-if in let q = member-parts (a .members) (λ (k : ℕ). row k (a .goal .set) (a .goal .parent) (a .goal .letter)) (suc (l .loop .j)) 64 (omega (arith, c .before .before .before .before .before .before .before .before .before .before .before .before .before .before .loop-test .taken)) in rw (q .1) (enters-stop (columns (a .places .now) (a .sets .now) (a .parents .now) (a .letters .now)) (columns (e .last .0) (e .last .1 .0) (e .last .1 .1 .0) (e .last .1 .1 .1 .0)) (columns (e .last .0) (e .last .1 .0) (e .last .1 .1 .0) (e .last .1 .1 .1 .0)) (a .room) (a .used) (eachMember (a .members) (λ (k : ℕ). row k (a .goal .set) (a .goal .parent) (a .goal .letter)) (suc (l .loop .j))) (q .0) (e .result) (e .result) (s .pre) (more (c .before)) (c .if1 .taken))
+returns c =
+    let l = c .before .before .before .before .before .before .before .before .before .before .before .before .before .before .before in
+    let s = l .before .before .before .before .before in
+    let a = s .args in
+    let v = l .loop .inv in
+    let e = c .before .before .before .before .before .before .before .before .before .enter-if in
+    let q = member-parts (a .members) (λ (k : ℕ). row k (a .goal .set) (a .goal .parent) (a .goal .letter)) (suc (l .loop .j)) 64 (omega (arith, c .before .before .before .before .before .before .before .before .before .before .before .before .before .before .loop-test .taken)) in
+    rw
+    (q .1)
+    (enters-stop
+    (columns (a .places .now) (a .sets .now) (a .parents .now) (a .letters .now))
+    (columns (e .last .0) (e .last .1 .0) (e .last .1 .1 .0) (e .last .1 .1 .1 .0))
+    (columns (e .last .0) (e .last .1 .0) (e .last .1 .1 .0) (e .last .1 .1 .1 .0)) (a .room) (a .used)
+    (eachMember (a .members) (λ (k : ℕ). row k (a .goal .set) (a .goal .parent) (a .goal .letter)) (suc (l .loop .j))) (q .0) (e .result)
+    (e .result) (s .pre) (more (c .before)) (c .if1 .taken))
 
 add-j : tie.Need-add-j Inv-loop μ-loop
 add-j c = search needs
@@ -73,7 +127,20 @@ loop-less : tie.Need-loop-less Inv-loop μ-loop
 loop-less c = search needs
 
 loop-again : tie.Need-loop-again Inv-loop μ-loop
-loop-again c = let l = c .before .before .before .before .before .before .before .before .before .before .before .before .before .before .before in let s = l .before .before .before .before .before in let a = s .args in let v = l .loop .inv in let e = c .before .before .before .before .before .before .before .before .before .enter-if in (omega (arith, c .before .before .before .before .before .before .before .before .before .before .before .before .before .before .loop-test .taken), e .kept .0 ∙ v .1, e .kept .1 .0 ∙ v .2, e .kept .1 .1 .0 ∙ v .3, e .kept .1 .1 .1 .0 ∙ v .4, rw add-one (enters-open _ _ _ _ (more (c .before)) (c .if1 .left)))
+loop-again c =
+    let l = c .before .before .before .before .before .before .before .before .before .before .before .before .before .before .before in
+    let s = l .before .before .before .before .before in
+    let a = s .args in
+    let v = l .loop .inv in
+    let e = c .before .before .before .before .before .before .before .before .before .enter-if in
+    (
+      omega (arith, c .before .before .before .before .before .before .before .before .before .before .before .before .before .before .loop-test .taken),
+      e .kept .0 ∙ v .1,
+      e .kept .1 .0 ∙ v .2,
+      e .kept .1 .1 .0 ∙ v .3,
+      e .kept .1 .1 .1 .0 ∙ v .4,
+      rw add-one (enters-open _ _ _ _ (more (c .before)) (c .if1 .left)),
+    )
 
 same-length-5 : tie.Need-same-length-5 Inv-loop μ-loop
 same-length-5 c = search needs
@@ -88,7 +155,12 @@ same-length-8 : tie.Need-same-length-8 Inv-loop μ-loop
 same-length-8 c = search needs
 
 returns-2 : tie.Need-returns-2 Inv-loop μ-loop
-returns-2 c = let l = c .before in let a = l .before .before .before .before .before .args in subst (λ (n : ℕ). Enters (columns (a .places .now) (a .sets .now) (a .parents .now) (a .letters .now)) (columns (l .loop .places) (l .loop .sets) (l .loop .parents) (l .loop .letters)) (enterAll (a .room) (eachMember (a .members) (λ (k : ℕ). row k (a .goal .set) (a .goal .parent) (a .goal .letter)) n) (entering (rowsIn (columns (a .places .now) (a .sets .now) (a .parents .now) (a .letters .now)) (a .used)))) (entered (l .loop .u) false)) (omega arith) (l .loop .inv .5)
+returns-2 c =
+    let l = c .before in
+    let a = l .before .before .before .before .before .args in
+    subst
+    (λ (n : ℕ). Enters (columns (a .places .now) (a .sets .now) (a .parents .now) (a .letters .now)) (columns (l .loop .places) (l .loop .sets) (l .loop .parents) (l .loop .letters)) (enterAll (a .room) (eachMember (a .members) (λ (k : ℕ). row k (a .goal .set) (a .goal .parent) (a .goal .letter)) n) (entering (rowsIn (columns (a .places .now) (a .sets .now) (a .parents .now) (a .letters .now)) (a .used)))) (entered (l .loop .u) false))
+    (omega arith) (l .loop .inv .5)
 
 pub enter-members-spec : {M : Type 1} → statement M
 enter-members-spec =

@@ -35,7 +35,8 @@ same-goal-requires : tie.Need-same-goal-requires Inv-loop μ-loop
 same-goal-requires c κs = search needs
 
 returns : tie.Need-returns Inv-loop μ-loop
-returns c = sym (some-below _ _ (c .before .before .before .before .before .loop .i) (c .before .before .before .before .loop-test .taken) (sym (c .before .same-goal .ensures) ∙ c .if1 .taken))
+returns c =
+    sym (some-below _ _ (c .before .before .before .before .before .loop .i) (c .before .before .before .before .loop-test .taken) (sym (c .before .same-goal .ensures) ∙ c .if1 .taken))
 
 add-i : tie.Need-add-i Inv-loop μ-loop
 add-i c = search needs
@@ -45,10 +46,16 @@ loop-less c = search needs
 
 loop-again : tie.Need-loop-again Inv-loop μ-loop
 unfolding someBelow
-loop-again c = (search needs, rw add-one (or-none _ _ .1 (c .before .before .before .before .before .loop .inv .1, sym (c .before .same-goal .ensures) ∙ c .if1 .left)))
+loop-again c =
+    (
+      search needs,
+      rw add-one (or-none _ _ .1 (c .before .before .before .before .before .loop .inv .1, sym (c .before .same-goal .ensures) ∙ c .if1 .left)),
+    )
 
 returns-2 : tie.Need-returns-2 Inv-loop μ-loop
-returns-2 c = let a = c .before .before .before .before .args in sym (ap (λ (m : ℕ). someBelow m (λ k. eqb (getD (a .places .now) k 0) (a .place) && eqb (getD (a .sets .now) k 0) (a .set))) (omega arith) ∙ c .before .loop .inv .1)
+returns-2 c =
+    let a = c .before .before .before .before .args in
+    sym (ap (λ (m : ℕ). someBelow m (λ k. eqb (getD (a .places .now) k 0) (a .place) && eqb (getD (a .sets .now) k 0) (a .set))) (omega arith) ∙ c .before .loop .inv .1)
 
 pub is-known-spec : {M : Type 1} → statement M
 is-known-spec =

@@ -33,7 +33,9 @@ unfolding spreadIn
 loop-again c = (search needs, rw add-one (ap₂ bitOr (c .before .before .loop .inv .1) (c .followers-if .ensures)))
 
 returns : tie.Need-returns Inv-loop μ-loop
-returns c = let a = c .before .before .before .args in c .before .loop .inv .1 ∙ ap (spreadIn (a .side .follow) (a .set)) (omega arith) ∙ spread-in (a .side) (a .set) 64
+returns c =
+    let a = c .before .before .before .args in
+    c .before .loop .inv .1 ∙ ap (spreadIn (a .side .follow) (a .set)) (omega arith) ∙ spread-in (a .side) (a .set) 64
 
 pub spread-of-spec : {M : Type 1} → statement M
 spread-of-spec =

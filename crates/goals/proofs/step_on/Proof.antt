@@ -22,10 +22,17 @@ is-bad-requires : tie.Need-is-bad-requires
 is-bad-requires c κs = search needs
 
 returns : tie.Need-returns
-returns c = let s = c .before .before .before .before .before .before .before .before .before in let a = s .args in step-bad (columns (a .places .now) (a .sets .now) (a .parents .now) (a .letters .now)) (a .room) (a .left) (a .right) (a .ls) (a .run) (s .pre) _ (c .before .is-bad .ensures) (c .if1 .taken)
+returns c =
+    let s = c .before .before .before .before .before .before .before .before .before in
+    let a = s .args in
+    step-bad
+    (columns (a .places .now) (a .sets .now) (a .parents .now) (a .letters .now)) (a .room) (a .left) (a .right) (a .ls) (a .run) (s .pre) _
+    (c .before .is-bad .ensures) (c .if1 .taken)
 
 cast-followers-at : tie.Need-cast-followers-at
-cast-followers-at c = let s = c .before .before .before .before .before .before .before .before .before .before in omega (arith, c .before .before .before .before .slice-known5 .given (s .args .run .settled))
+cast-followers-at c =
+    let s = c .before .before .before .before .before .before .before .before .before .before in
+    omega (arith, c .before .before .before .before .slice-known5 .given (s .args .run .settled))
 
 followers-at-requires : tie.Need-followers-at-requires
 followers-at-requires c κs = search needs
@@ -43,7 +50,11 @@ enter-letters-requires : tie.Need-enter-letters-requires
 enter-letters-requires c κs = search needs
 
 settled-requires : tie.Need-settled-requires
-settled-requires c κs = let s = c .before .before .before .before .before .before .before .before .before .before .before .before .before .before .before .before .before .before .before .before .before .before .before .before .before .before in let a = s .args in let m = enters-most (columns (a .places .now) (a .sets .now) (a .parents .now) (a .letters .now)) _ (a .run .used) (a .room) _ _ (s .pre .fits) (c .before .before .before .before .before .before .before .before .enter-letters .ensures) in (omega (arith, m, s .pre .fits .small), omega (arith, s .pre .left-over, s .pre .fits .used, s .pre .fits .small))
+settled-requires c κs =
+    let s = c .before .before .before .before .before .before .before .before .before .before .before .before .before .before .before .before .before .before .before .before .before .before .before .before .before .before in
+    let a = s .args in
+    let m = enters-most (columns (a .places .now) (a .sets .now) (a .parents .now) (a .letters .now)) _ (a .run .used) (a .room) _ _ (s .pre .fits) (c .before .before .before .before .before .before .before .before .enter-letters .ensures) in
+    (omega (arith, m, s .pre .fits .small), omega (arith, s .pre .left-over, s .pre .fits .used, s .pre .fits .small))
 
 same-length : tie.Need-same-length
 same-length c = search needs
@@ -58,7 +69,19 @@ same-length-4 : tie.Need-same-length-4
 same-length-4 c = search needs
 
 returns-2 : tie.Need-returns-2
-returns-2 c = let s = c .before .before .before .before .before .before .before .before .before .before .before .before .before .before .before .before .before .before .before .before .before .before .before .before .before .before .before in let a = s .args in step-next (columns (a .places .now) (a .sets .now) (a .parents .now) (a .letters .now)) (a .room) (a .left) (a .right) (a .ls) (a .run) (s .pre) _ _ _ _ _ _ (c .before .before .before .before .before .before .before .before .before .before .before .before .before .before .before .before .before .before .before .is-bad .ensures) (c .before .before .before .before .before .before .before .before .before .before .before .before .before .before .before .before .before .before .if1 .left) (c .before .before .before .before .before .before .before .before .before .before .before .before .before .before .before .before .followers-at .ensures) (c .before .before .before .before .before .before .before .before .before .before .before .before .before .before .before .spread-of .ensures) (c .before .before .before .before .before .before .before .before .before .enter-letters .ensures) (c .settled .ensures)
+returns-2 c =
+    let s = c .before .before .before .before .before .before .before .before .before .before .before .before .before .before .before .before .before .before .before .before .before .before .before .before .before .before .before in
+    let a = s .args in
+    step-next
+    (columns (a .places .now) (a .sets .now) (a .parents .now) (a .letters .now)) (a .room) (a .left) (a .right) (a .ls) (a .run) (s .pre) _
+    _ _ _ _ _
+    (c
+    .before .before .before .before .before .before .before .before .before .before .before .before .before .before .before .before .before
+    .before .before .is-bad .ensures)
+    (c .before .before .before .before .before .before .before .before .before .before .before .before .before .before .before .before .before .before .if1 .left)
+    (c .before .before .before .before .before .before .before .before .before .before .before .before .before .before .before .before .followers-at .ensures)
+    (c .before .before .before .before .before .before .before .before .before .before .before .before .before .before .before .spread-of .ensures)
+    (c .before .before .before .before .before .before .before .before .before .enter-letters .ensures) (c .settled .ensures)
 
 pub step-on-spec : {M : Type 1} → statement M
 step-on-spec =

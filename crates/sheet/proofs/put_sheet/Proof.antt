@@ -7,9 +7,9 @@ use lib.ListN.{length-set}
 use lib.ListN as list
 use borrow.Author.Needs.{needs}
 use borrow.Author.Tests.{lt-ltb, le-ltb}
-use Rattle.effect.specs.Refusals.{answered}
+use Rattle.effect.specs.Refusals.{answered, front}
 use Rattle.sheet.specs.Bits.{fields}
-use Rattle.sheet.specs.Sheet.{front, exit, sheetBits, sheetOf, writing}
+use Rattle.sheet.specs.Sheet.{exit, sheetBits, sheetOf, writing}
 use Rattle.sheet.proofs.Front.{front-field}
 use Rattle.sheet.proofs.put_sheet.Statement.{statement}
 use Rattle.sheet.proofs.put_sheet.Tie as tie

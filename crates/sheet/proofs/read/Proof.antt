@@ -7,9 +7,9 @@ use native.Mathlib.Omega.{arith}
 use lib.ListN.{length, take}
 use lib.Seq.{length-take-le, take-at}
 use borrow.Author.Needs.{needs}
-use Rattle.effect.specs.Refusals.{checked, checkOf}
+use Rattle.effect.specs.Refusals.{checked, checkOf, front}
 use Rattle.sheet.specs.Bits.{each, fields}
-use Rattle.sheet.specs.Sheet.{signalsIn, countIn, nodesIn, headerRefusal, front, reading}
+use Rattle.sheet.specs.Sheet.{signalsIn, countIn, nodesIn, headerRefusal, reading}
 use Rattle.sheet.proofs.Fields.{length-fields}
 use Rattle.sheet.proofs.Front.{done}
 use Rattle.sheet.proofs.Header.{signals-lt, count-lt}

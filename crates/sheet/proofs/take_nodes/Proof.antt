@@ -5,7 +5,7 @@ use native.Mathlib.Omega.{arith}
 use lib.ListN.{length, length-set}
 use borrow.Author.Needs.{needs}
 use Rattle.sheet.specs.Bits.{each, fields}
-use Rattle.sheet.specs.Sheet.{front}
+use Rattle.effect.specs.Refusals.{front}
 use Rattle.sheet.proofs.Front.{front-field}
 use Rattle.sheet.proofs.take_nodes.Statement.{statement}
 use Rattle.sheet.proofs.take_nodes.Tie as tie
