@@ -18,9 +18,12 @@ row place set parent letter = record { set = set; parent = parent; letter = lett
 abbrev pub rowZero : Row
 rowZero = row 0 1 0 0
 
--- "A goal is bad if its left place accepts and no member of the set does."
-unfoldable pub bad : Side → Side → Row → Bool
-bad l r w = has (l .accepts) (w .place) && eqb (bitAnd (w .set) (r .accepts)) 0
+-- "A goal is bad if its left place accepts and no member of the set does": the places of each side that accept, and the goal
+unfoldable pub badGoal : ℕ → ℕ → ℕ → ℕ → Bool
+badGoal left right place set = has left place && eqb (bitAnd set right) 0
+
+abbrev pub bad : Side → Side → Row → Bool
+bad l r w = badGoal (l .accepts) (r .accepts) (w .place) (w .set)
 
 -- the row f j of each member j below n of the set m, ascending
 unfoldable pub eachMember : ℕ → (ℕ → Row) → ℕ → List Row

@@ -1,4 +1,4 @@
 pub mod Goals
 pub mod Run
-pub mod Calls
-pub mod Core
+pub mod Refusals
+pub mod Cases

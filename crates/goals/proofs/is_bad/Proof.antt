@@ -4,6 +4,7 @@ use mathlib.Core.Bool.{Bool, _&&_}
 use lib.Bits.{bitAnd}
 use lib.Dec.{eqb}
 use borrow.Author.Needs.{needs}
+use Rattle.goals.specs.Goals.{badGoal}
 use Rattle.goals.proofs.is_bad.Statement.{statement}
 use Rattle.goals.proofs.is_bad.Tie as tie
 
@@ -11,6 +12,7 @@ has-requires : tie.Need-has-requires
 has-requires c κs = search needs
 
 returns : tie.Need-returns
+unfolding badGoal
 returns c = ap (λ (b : Bool). b && eqb (bitAnd (c .before .args .set) (c .before .args .right)) 0) (c .has .ensures)
 
 pub is-bad-spec : {M : Type 1} → statement M

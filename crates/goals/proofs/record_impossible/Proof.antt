@@ -1,7 +1,7 @@
 -- `goals::record_impossible`. By computing.
 use mathlib.Core.Path.{refl}
 use borrow.Author.Needs.{needs}
-use Rattle.goals.specs.Calls.{recordImpossible}
+use Rattle.goals.specs.Refusals.{recordImpossible}
 use Rattle.goals.proofs.record_impossible.Statement.{statement}
 use Rattle.goals.proofs.record_impossible.Tie as tie
 

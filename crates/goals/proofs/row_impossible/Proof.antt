@@ -2,7 +2,7 @@
 use mathlib.Core.Bool.{not, _||_}
 use lib.Dec.{eqb, ltb, leb}
 use borrow.Author.Needs.{needs}
-use Rattle.goals.specs.Calls.{rowImpossible}
+use Rattle.goals.specs.Refusals.{rowImpossible}
 use Rattle.goals.proofs.row_impossible.Statement.{statement}
 use Rattle.goals.proofs.row_impossible.Tie as tie
 

@@ -1,6 +1,6 @@
 -- `goals::row_zero_impossible`. By computing.
 use mathlib.Core.Path.{refl}
-use Rattle.goals.specs.Calls.{rowZeroImpossible}
+use Rattle.goals.specs.Refusals.{rowZeroImpossible}
 use Rattle.goals.proofs.row_zero_impossible.Statement.{statement}
 use Rattle.goals.proofs.row_zero_impossible.Tie as tie
 

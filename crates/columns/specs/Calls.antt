@@ -1,0 +1,81 @@
+-- The calls on parallel columns: what each is lent, answers and leaves.
+use Prim.Native.Nat.{ℕ, zero, suc, min}
+use mathlib.Core.Path.{_≡_}
+use mathlib.Core.List.{List, [], _∷_, _++_, map}
+use lib.ListN.{length, getD}
+use Rattle.effect.specs.Refusals.{front}
+use Rattle.goals.specs.declared.Row.{Row}
+use Rattle.goals.specs.declared.Run.{Run}
+use Rattle.goals.specs.Goals.{row}
+use Rattle.goals.specs.Run.{State, state, started, traceOf}
+use Rattle.goals.specs.Refusals.{Given, recordOf, startRefusal, runRefusal, traceRefusal, naming, named, Reply, leaves, exit, valuesOf, runAfter}
+use Rattle.columns.specs.declared.Called.{Called}
+use Rattle.columns.specs.declared.Called.the-variants as called-variants
+use Rattle.columns.specs.declared.Tracing.{Tracing}
+use Rattle.columns.specs.declared.Tracing.the-variants as tracing-variants
+
+-- The rows as the caller lends them to these calls: a column for each of place, set, parent and letter.
+pub record Columns : Type 0 where
+  pub places : List ℕ
+  pub sets : List ℕ
+  pub parents : List ℕ
+  pub letters : List ℕ
+
+abbrev pub columns : List ℕ → List ℕ → List ℕ → List ℕ → Columns
+columns p s q l = record { places = p; sets = s; parents = q; letters = l }
+
+abbrev pub rowAt : Columns → ℕ → Row
+rowAt c i = row (getD (c .places) i 0) (getD (c .sets) i 0) (getD (c .parents) i 0) (getD (c .letters) i 0)
+
+-- the first n rows
+unfoldable pub rowsIn : Columns → ℕ → List Row
+rowsIn c zero = []
+rowsIn c (suc n) = rowsIn c n ++ (rowAt c n ∷ [])
+
+-- the rows at the front of the columns; "the other rows stay"
+abbrev pub put : List Row → Columns → Columns
+put rows c =
+    columns
+    (front (map (λ w. w .place) rows) (c .places))
+    (front (map (λ w. w .set) rows) (c .sets))
+    (front (map (λ w. w .parent) rows) (c .parents))
+    (front (map (λ w. w .letter) rows) (c .letters))
+
+-- the rows lent: as many as the caller says, and no more than the shortest column has
+abbrev pub lentIn : ℕ → Columns → ℕ
+lentIn lent c = min lent (min (length (c .places)) (min (length (c .sets)) (min (length (c .parents)) (length (c .letters)))))
+
+-- the state of a record with its rows
+abbrev pub stateOf : Columns → Run → State
+stateOf c r = state (rowsIn c (r .used)) (r .settled) (r .outcome)
+
+-- the number and values of each case of what start and run answer: settled, used and outcome, or a refusal
+unfoldable pub called : Called → Reply
+called (called-variants.Accepted r) = record { refusal = naming 0 0; values = valuesOf r }
+called (called-variants.Refused why) = record { refusal = named why; values = [] }
+
+-- and of what trace answers: the number of letters, or a refusal
+unfoldable pub tracing : Tracing → Reply
+tracing (tracing-variants.Accepted n) = record { refusal = naming 0 0; values = n ∷ [] }
+tracing (tracing-variants.Refused why) = record { refusal = named why; values = [] }
+
+-- the promise of `start_on`
+abbrev pub Starts : Given → ℕ → Columns → Called → Columns → Type 0
+Starts g lent c answer c′ =
+    exit (called answer) c′ ≡ leaves (startRefusal g (lentIn lent c)) (valuesOf (recordOf started)) (put (started .rows) c) c
+
+-- the promise of `run_on`
+abbrev pub Runs : Given → ℕ → Columns → Run → ℕ → Called → Columns → Type 0
+Runs g lent c r budget answer c′ =
+    let rows = rowsIn c (r .used) in
+    let st = runAfter g (lentIn lent c) rows r budget in
+    exit (called answer) c′ ≡ leaves (runRefusal g (lentIn lent c) rows r) (valuesOf (recordOf st)) (put (st .rows) c) c
+
+-- the promise of `trace_on`: "the letters from row 0 to the refuted row, one byte each, at the buffer's front, and answers how
+-- many; the rest stays"
+abbrev pub Traces : Given → ℕ → Columns → Run → List ℕ → Tracing → List ℕ → Type 0
+Traces g lent c r out answer out′ =
+    let rows = rowsIn c (r .used) in
+    let word = traceOf rows (r .settled) in
+    exit (tracing answer) out′
+    ≡ leaves (traceRefusal g (lentIn lent c) rows r (length out)) (length word ∷ []) (front word out) out

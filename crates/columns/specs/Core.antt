@@ -1,0 +1,94 @@
+-- What the functions under the calls promise each other.
+use Prim.Native.Nat.{ℕ, zero, suc, _≤_, _<_, _^_}
+use lib.Bits.{bitAnd}
+use mathlib.Core.Path.{_≡_}
+use mathlib.Core.Bool.{Bool, true, false, cond}
+use mathlib.Core.List.{List, [], _∷_, _++_}
+use lib.Dec.{eqb}
+use lib.ListN.{length, getD}
+use Rattle.goals.specs.declared.Row.{Row}
+use Rattle.places.specs.Matching.{namingOf, matchingBy}
+use Rattle.columns.specs.declared.Entering.{Entering}
+use Rattle.columns.specs.declared.Letters.{Letters}
+use Rattle.goals.specs.Goals.{row, eachMember, Entered}
+use Rattle.places.specs.declared.Side.{Side}
+use Rattle.places.specs.Readings.{matching}
+use Rattle.goals.specs.declared.Run.{Run}
+use Rattle.goals.specs.Run.{State}
+use Rattle.goals.specs.declared.SideRefusal.{SideRefusal}
+use Rattle.columns.specs.declared.Sides.{Sides}
+use Rattle.goals.specs.Refusals.{Given, leftOf, rightOf, recordOf, Named, naming, named, first, sideRows}
+use Rattle.columns.specs.Calls.{Columns, put}
+
+-- the columns have room for so many rows, of which so many are used
+pub record Fits (c : Columns) (n room : ℕ) : Type 0 where
+  pub used : n ≤ room
+  pub small : room ≤ 65535
+  pub places : room ≤ length (c .places)
+  pub sets : room ≤ length (c .sets)
+  pub parents : room ≤ length (c .parents)
+  pub letters : room ≤ length (c .letters)
+
+-- the used rows before any goal is entered
+abbrev pub entering : List Row → Entered
+entering rows = record { rows = rows; full = false }
+
+-- columns and answer are what the definition's entered rows say
+pub record Enters (before after : Columns) (e : Entered) (r : Entering) : Type 0 where
+  pub columns : after ≡ put (e .rows) before
+  pub used : r .used ≡ length (e .rows)
+  pub full : r .full ≡ e .full
+
+-- the goals of the letter x, with what the letters leave of the left followers and of the right set
+abbrev pub lettered : Letters → ℕ → ℕ → ℕ → ℕ → List Row
+lettered ls follow spread i x =
+    eachMember (bitAnd follow (matchingBy (ls .left) (ls .s) (ls .m) x))
+    (λ j. row j (bitAnd spread (matchingBy (ls .right) (ls .s) (ls .k) x)) i x)
+    64
+
+-- a run that can take a step: some row is not settled, and the letters are worked out for the two sides
+pub record Ready (c : Columns) (room : ℕ) (left right : Side) (ls : Letters) (r : Run) : Type 0 where
+  pub fits : Fits c (r .used) room
+  pub left-over : r .settled < r .used
+  pub few : ls .s ≤ 16
+  pub signals : ls .s ≡ left .s
+  pub on-left : (x : ℕ) → x < 2 ^ (left .s) → matchingBy (ls .left) (ls .s) (ls .m) x ≡ matching left x
+  pub on-right : (x : ℕ) → x < 2 ^ (left .s) → matchingBy (ls .right) (ls .s) (ls .k) x ≡ matching right x
+
+-- columns and record are what the definition's state says
+pub record Steps (before after : Columns) (st : State) (r : Run) : Type 0 where
+  pub columns : after ≡ put (st .rows) before
+  pub now : r ≡ recordOf st
+
+-- a side by value whose letters can be worked out signal by signal
+abbrev pub Lettered : Side → Type 0
+Lettered sd = (x : ℕ) → x < 2 ^ (sd .s) → matchingBy (namingOf sd) (sd .s) (sd .count) x ≡ matching sd x
+
+-- a run that can be gone on with, decided or not
+pub record Runnable (c : Columns) (room : ℕ) (left right : Side) (r : Run) : Type 0 where
+  pub fits : Fits c (r .used) room
+  pub unsettled : (r .outcome ≡ 1 → ⊥) → r .settled < r .used
+  pub few : left .s ≤ 16
+  pub signals : right .s ≡ left .s
+  pub on-left : Lettered left
+  pub on-right : Lettered right
+
+-- the refusal that is none where its number is 0
+abbrev pub refusedBy : SideRefusal → Named
+refusedBy why = cond (eqb (why .refusal .number) 0) (naming 0 0) (named why)
+
+-- both sides, or why there are none
+pub record Prepares (g : Given) (r : Sides) : Type 0 where
+  pub why : refusedBy (r .why) ≡ first (sideRows g)
+  pub left : r .why .refusal .number ≡ 0 → r .left ≡ leftOf g
+  pub right : r .why .refusal .number ≡ 0 → r .right ≡ rightOf g
+
+-- every row but row 0 has its parent below it, and so leads to row 0
+abbrev pub Rooted : List ℕ → ℕ → Type 0
+Rooted parents n = (i : ℕ) → 0 < i → i < n → getD parents i 0 < i
+
+-- the letters on the way from row 0 to row i
+unfoldable pub climb : List ℕ → List ℕ → ℕ → ℕ → List ℕ
+climb parents letters zero i = []
+climb parents letters (suc f) i =
+    elim (eqb i 0) [ true ↦ [] | false ↦ climb parents letters f (getD parents i 0) ++ (getD letters i 0 ∷ []) ]

@@ -1,0 +1,353 @@
+// The calls of a record, and the line of each answer.
+use crate::hex;
+use crate::print;
+use crate::rows;
+use columns::Called;
+use goals::Row;
+use goals::Run;
+use columns::Tracing;
+ghost use mathlib.Core.Path.{_≡_};
+ghost use lib.ListN.{length};
+ghost use Rattle.io.specs.Counts.{Counts};
+
+// What a call leaves to the next: how many rows are lent, and the record of the run.
+pub struct State {
+    lent: usize,
+    run: Run,
+}
+
+// A call as the record has it: its kind and what goes with it, and three numbers.
+struct Call {
+    head: u32,
+    a: u32,
+    b: u32,
+    c: u32,
+}
+
+// As many rows lent as a record says, and no run yet.
+pub fn first(lent: u64) -> State {
+    let run = Run {
+        settled: 0,
+        used: 0,
+        outcome: 0,
+    };
+    State {
+        lent: lent as usize,
+        run: run,
+    }
+}
+
+fn lend(state: State, call: Call) -> State {
+    let run = state.run;
+    State {
+        lent: hex::pair(call.a, call.b) as usize,
+        run: run,
+    }
+}
+
+fn forge(state: State, call: Call) -> State {
+    let run = Run {
+        settled: call.a,
+        used: call.b,
+        outcome: (call.head / 65536 % 256) as u8,
+    };
+    State {
+        lent: state.lent,
+        run: run,
+    }
+}
+
+fn row_of(call: Call) -> Row {
+    Row {
+        set: hex::pair(call.a, call.b),
+        parent: (call.c / 65536) as u16,
+        letter: (call.c % 65536) as u16,
+        place: (call.head / 65536 % 256) as u8,
+    }
+}
+
+// Prints what was answered. The record is the new one, or after a refusal the old.
+fn keep(name: &[u8], state: State, answer: Called) -> State {
+    print::word(name);
+    match answer {
+        Called::Accepted(run) => {
+            print::run(run);
+            State {
+                lent: state.lent,
+                run: run,
+            }
+        },
+        Called::Refused(why) => {
+            print::refused(why);
+            print::word(b"\n");
+            state
+        },
+    }
+}
+
+fn show_tracing(answer: Tracing, out: &[u8]) {
+    print::word(b"trace");
+    match answer {
+        Tracing::Accepted(n) => print::decimal(b" length ", n as u64),
+        Tracing::Refused(why) => print::refused(why),
+    }
+    print::bytes(b" out", out);
+}
+
+// As many letters as a trace may have here.
+fn buffer() -> [u8; 512]
+    ensures { λ r. ⌜ 512 ≡ length r ⌝ }
+{
+    [0xee; 512]
+}
+
+// n, or the number of bytes where that is less.
+fn within(n: usize, bytes: &[u8]) -> usize
+    ensures { λ r. ⌜ Counts r (now (bytes .entry)) ⌝ }
+{
+    if n < bytes.len() { n } else { bytes.len() }
+}
+
+fn trace_to(
+    ls: u8,
+    left: &[u32],
+    rs: u8,
+    right: &[u32],
+    places: &[u8],
+    sets: &[u64],
+    parents: &[u16],
+    letters: &[u16],
+    state: State,
+    out: &mut [u8],
+) {
+    let run = state.run;
+    let answer = columns::trace_on(
+        ls,
+        left,
+        rs,
+        right,
+        state.lent,
+        places,
+        sets,
+        parents,
+        letters,
+        run,
+        out,
+    );
+    show_tracing(answer, out);
+}
+
+fn trace(
+    ls: u8,
+    left: &[u32],
+    rs: u8,
+    right: &[u32],
+    places: &[u8],
+    sets: &[u64],
+    parents: &[u16],
+    letters: &[u16],
+    state: State,
+    call: Call,
+) {
+    let asked = (call.head % 65536) as usize;
+    let mut out = buffer();
+    let n = within(asked, &out);
+    if n < asked {
+        print::word(b"bad call\n");
+        return;
+    }
+    trace_to(
+        ls,
+        left,
+        rs,
+        right,
+        places,
+        sets,
+        parents,
+        letters,
+        state,
+        &mut out[..n],
+    );
+}
+
+fn start(
+    ls: u8,
+    left: &[u32],
+    rs: u8,
+    right: &[u32],
+    places: &mut [u8],
+    sets: &mut [u64],
+    parents: &mut [u16],
+    letters: &mut [u16],
+    state: State,
+) -> State {
+    let answer = columns::start_on(
+        ls,
+        left,
+        rs,
+        right,
+        state.lent,
+        places,
+        sets,
+        parents,
+        letters,
+    );
+    keep(b"start", state, answer)
+}
+
+fn run(
+    ls: u8,
+    left: &[u32],
+    rs: u8,
+    right: &[u32],
+    places: &mut [u8],
+    sets: &mut [u64],
+    parents: &mut [u16],
+    letters: &mut [u16],
+    state: State,
+    call: Call,
+) -> State {
+    let record = state.run;
+    let answer = columns::run_on(
+        ls,
+        left,
+        rs,
+        right,
+        state.lent,
+        places,
+        sets,
+        parents,
+        letters,
+        record,
+        hex::pair(call.a, call.b),
+    );
+    keep(b"run", state, answer)
+}
+
+// The row before the first of those asked for; row 0 has none, and is its own.
+fn before(i: usize) -> usize {
+    if i > 0 { i - 1 } else { 0 }
+}
+
+// Forges or shows rows.
+fn on_rows(
+    places: &mut [u8],
+    sets: &mut [u64],
+    parents: &mut [u16],
+    letters: &mut [u16],
+    call: Call,
+) {
+    let from = call.a as usize;
+    let to = call.b as usize;
+    match call.head / 16777216 {
+        4 => rows::put(
+            places,
+            sets,
+            parents,
+            letters,
+            (call.head % 65536) as usize,
+            row_of(call),
+        ),
+        5 => {
+            let row = rows::at(places, sets, parents, letters, before(from));
+            rows::fill(places, sets, parents, letters, from, to, row);
+        },
+        7 => rows::show(places, sets, parents, letters, from, to),
+        _ => print::word(b"bad call\n"),
+    }
+}
+
+fn make(
+    ls: u8,
+    left: &[u32],
+    rs: u8,
+    right: &[u32],
+    places: &mut [u8],
+    sets: &mut [u64],
+    parents: &mut [u16],
+    letters: &mut [u16],
+    state: State,
+    call: Call,
+) -> State {
+    match call.head / 16777216 {
+        0 => start(ls, left, rs, right, places, sets, parents, letters, state),
+        1 => run(
+            ls,
+            left,
+            rs,
+            right,
+            places,
+            sets,
+            parents,
+            letters,
+            state,
+            call,
+        ),
+        2 => {
+            trace(
+                ls,
+                left,
+                rs,
+                right,
+                places,
+                sets,
+                parents,
+                letters,
+                state,
+                call,
+            );
+            state
+        },
+        3 => forge(state, call),
+        6 => lend(state, call),
+        _ => {
+            on_rows(places, sets, parents, letters, call);
+            state
+        },
+    }
+}
+
+// Call i of a record.
+fn call_at(calls: &[u32], i: usize) -> Call {
+    Call {
+        head: hex::at(calls, i),
+        a: hex::after(calls, i, 1),
+        b: hex::after(calls, i, 2),
+        c: hex::after(calls, i, 3),
+    }
+}
+
+// Makes the calls one after the other.
+pub fn make_all(
+    ls: u8,
+    left: &[u32],
+    rs: u8,
+    right: &[u32],
+    places: &mut [u8],
+    sets: &mut [u64],
+    parents: &mut [u16],
+    letters: &mut [u16],
+    lent: u64,
+    calls: &[u32],
+) {
+    let mut state = first(lent);
+    let n = calls.len() / 4;
+    let mut i: usize = 0;
+    while i < n {
+        let call = call_at(calls, 4 * i);
+        i += 1;
+        let next = make(
+            ls,
+            left,
+            rs,
+            right,
+            places,
+            sets,
+            parents,
+            letters,
+            state,
+            call,
+        );
+        state = next;
+    }
+}
