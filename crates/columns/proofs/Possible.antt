@@ -139,9 +139,13 @@ module _ (s m k room : ℕ) (c : Columns) (r : Run) (h : impossible s m k room (
   unfolding rowImpossible
   other-row i a l =
       let w = rowAt c i in
-      let t = six-none (eqb (w .place) 0) (ltb m (w .place)) (has (w .set) 0) (not (within (k + 1) (w .set))) (leb i (w .parent)) (not (within s (w .letter)))
-      (sym (looked s m k c i a w (rowImpossible s m k i w) refl refl) ∙ below-none (inColumns s m k c) (r .used) .0 (both-passed .1) i l) in
-      (leb-false _ _ (t .4), ltb-true _ _ (not-false (within s (w .letter)) (t .5)))
+      let passed : rowImpossible s m k i w ≡ false =
+      sym (looked s m k c i a w (rowImpossible s m k i w) refl refl) ∙ below-none (inColumns s m k c) (r .used) .0 (both-passed .1) i l in
+      let rest = or-none (eqb (w .place) 0 || ltb m (w .place))
+      ((has (w .set) 0 || not (within (k + 1) (w .set))) || (leb i (w .parent) || not (within s (w .letter)))) .0 passed in
+      let last = or-none (has (w .set) 0 || not (within (k + 1) (w .set))) (leb i (w .parent) || not (within s (w .letter))) .0 (rest .1) in
+      let two = or-none (leb i (w .parent)) (not (within s (w .letter))) .0 (last .1) in
+      (leb-false _ _ (two .0), ltb-true _ _ (not-false (within s (w .letter)) (two .1)))
 
   pub possible : Possible s room c r
   possible = record {

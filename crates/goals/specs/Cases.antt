@@ -38,9 +38,9 @@ lists s left right room outcome settled used trace =
       listed = record { outcome = outcome; settled = settled; used = used; trace = trace };
     }
 
--- "Room is ample unless named": the program's room
+-- "Room is ample unless named": none of these comparisons needs more than 1 + 2 × 2^3 rows
 abbrev pub ample : ℕ
-ample = 1024
+ample = 64
 
 -- "D is signal 0, M signal 1, a bar means absent"
 abbrev pub comparisons : List Comparison

@@ -62,12 +62,10 @@ rowZeroImpossible w =
 -- "another used row has place 0 or above m, set bit 0 or a bit above k, a parent not below it, or a letter of 2^s or more"
 unfoldable pub rowImpossible : ℕ → ℕ → ℕ → ℕ → Row → Bool
 rowImpossible s m k i w =
-    eqb (w .place) 0
-    || (ltb m (w .place)
-    || (has (w .set) 0
-    || (not (within (k + 1) (w .set))
+    (eqb (w .place) 0 || ltb m (w .place))
+    || ((has (w .set) 0 || not (within (k + 1) (w .set)))
     || (leb i (w .parent)
-    || not (within s (w .letter))))))
+    || not (within s (w .letter))))
 
 -- s signals, m instants on the left and k on the right, the room, the used rows and the record
 unfoldable pub impossible : ℕ → ℕ → ℕ → ℕ → List Row → Run → Bool

@@ -111,11 +111,9 @@ pub fn row_zero_impossible(w: Row) -> bool
 pub fn row_impossible(s: u8, m: u8, k: u8, i: usize, w: Row) -> bool
     ensures { λ r. ⌜ r ≡ rowImpossible s m k i w ⌝ }
 {
-    (w.place == 0)
-        | ((m < w.place)
-            | (bits::has(w.set, 0)
-                | (!bits::within(w.set, k as u64 + 1)
-                    | ((i <= w.parent as usize) | !bits::within(w.letter as u64, s as u64)))))
+    ((w.place == 0) | (m < w.place))
+        | ((bits::has(w.set, 0) | !bits::within(w.set, k as u64 + 1))
+            | ((i <= w.parent as usize) | !bits::within(w.letter as u64, s as u64)))
 }
 
 // The room of that many rows lent.

@@ -29,7 +29,8 @@ unfolding rowImpossible
 returns c =
     let h = c .before .before .before .before in
     let a = h .before .before .before .args in
-    λ i. eqb (a .w .place) 0 || (ltb (a .m) (a .w .place) || (h .has .ensures i || (not (c .before .before .before .within .ensures i) || (leb (a .i) (a .w .parent) || not (c .within2 .ensures i)))))
+    λ i. (eqb (a .w .place) 0 || ltb (a .m) (a .w .place))
+    || ((h .has .ensures i || not (c .before .before .before .within .ensures i)) || (leb (a .i) (a .w .parent) || not (c .within2 .ensures i)))
 
 pub row-impossible-spec : {M : Type 1} → statement M
 row-impossible-spec =
