@@ -25,31 +25,31 @@ use Rattle.columns.specs.declared.Sides.{Sides}
 use Rattle.columns.specs.declared.Called.the-variants as called-variants
 use Rattle.columns.specs.declared.Tracing.the-variants as tracing-variants
 use Rattle.goals.specs.Run.{State, started, run, traceOf}
-use Rattle.goals.specs.Refusals.{Given, leftOf, rightOf, roomOf, recordOf, impossible, impossibleFor, Named, naming, named, first, refusalOf, startRefusal, runRefusal, traceRefusal, Reply, Leaves, exit, leaves, valuesOf, runAfter}
+use Rattle.goals.specs.Refusals.{Given, leftOf, rightOf, roomOf, recordOf, impossible, impossibleFor, Against, against, againstOf, first, refusalOf, startRefusal, runRefusal, traceRefusal, Reply, Leaves, exit, leaves, valuesOf, runAfter}
 use Rattle.columns.specs.Calls.{Columns, columns, rowsIn, put, lentIn, stateOf, called, tracing, Starts, Runs, Traces}
-use Rattle.columns.specs.Core.{Fits, Prepares, Lettered, Runnable, Steps, Rooted, climb}
+use Rattle.columns.specs.Core.{Fits, Prepares, Matchable, Runnable, Steps, Rooted, climb}
 use Rattle.columns.proofs.Possible.{Possible, possible}
 use Rattle.columns.proofs.Climbing.{climb-word}
 use Rattle.columns.proofs.Refusing.{first-here, first-skip, leaves-refused, sides-refused, sides-passed, both-formed}
 
 -- a call that has a refusal leaves all as it was
-refused-reply : {Lent : Type 0} (w why : Named) (values : List ℕ) (changed lent : Lent) → w ≡ why → (w .number ≡ 0 → ⊥)
+refused-reply : {Lent : Type 0} (w why : Against) (values : List ℕ) (changed lent : Lent) → w ≡ why → (w .number ≡ 0 → ⊥)
     → exit (record { refusal = w; values = [] }) lent ≡ leaves why values changed lent
-refused-reply w why values changed lent e h = leaves-refused w values changed lent h ∙ ap (λ (x : Named). leaves x values changed lent) e
+refused-reply w why values changed lent e h = leaves-refused w values changed lent h ∙ ap (λ (x : Against). leaves x values changed lent) e
 
 -- a call that has none
-done-reply : {Lent : Type 0} (why : Named) (values : List ℕ) (changed lent : Lent) → naming 0 0 ≡ why
-    → exit (record { refusal = naming 0 0; values = values }) changed ≡ leaves why values changed lent
-done-reply why values changed lent e = ap (λ (x : Named). leaves x values changed lent) e
+done-reply : {Lent : Type 0} (why : Against) (values : List ℕ) (changed lent : Lent) → against 0 0 ≡ why
+    → exit (record { refusal = against 0 0; values = values }) changed ≡ leaves why values changed lent
+done-reply why values changed lent e = ap (λ (x : Against). leaves x values changed lent) e
 
 -- a rule that applies names both sides, after rules that do not
-applies : (k : ℕ) (b : Bool) (rest : List ℕ) → b ≡ true → first (map (naming 3) (rule (suc k) b ∷ rest)) ≡ naming 3 (suc k)
-applies k b rest e = ap (λ (x : Bool). first (map (naming 3) (rule (suc k) x ∷ rest))) e ∙ first-here 3 (suc k) (map (naming 3) rest) (λ z. omega (arith, z))
+applies : (k : ℕ) (b : Bool) (rest : List ℕ) → b ≡ true → first (map (against 3) (rule (suc k) b ∷ rest)) ≡ against 3 (suc k)
+applies k b rest e = ap (λ (x : Bool). first (map (against 3) (rule (suc k) x ∷ rest))) e ∙ first-here 3 (suc k) (map (against 3) rest) (λ z. omega (arith, z))
 
-not-applies : (k : ℕ) (b : Bool) (rest : List ℕ) → b ≡ false → first (map (naming 3) (rule k b ∷ rest)) ≡ first (map (naming 3) rest)
-not-applies k b rest e = first-skip 3 (rule k b) (map (naming 3) rest) (ap (rule k) e)
+not-applies : (k : ℕ) (b : Bool) (rest : List ℕ) → b ≡ false → first (map (against 3) (rule k b ∷ rest)) ≡ first (map (against 3) rest)
+not-applies k b rest e = first-skip 3 (rule k b) (map (against 3) rest) (ap (rule k) e)
 
-none-left : first [] ≡ naming 0 0
+none-left : first [] ≡ against 0 0
 unfolding first
 none-left = refl
 
@@ -68,7 +68,7 @@ signals-are : (s : ℕ) (t : List Node) → sideOf s t .s ≡ s
 unfolding sideOf
 signals-are s t = refl
 
-lettered-side : (s : ℕ) (ns : List ℕ) → WellFormed s (decodings ns) → Lettered (sideOf s (nodesOf (decodings ns)))
+lettered-side : (s : ℕ) (ns : List ℕ) → WellFormed s (decodings ns) → Matchable (sideOf s (nodesOf (decodings ns)))
 unfolding sideOf
 lettered-side s ns w x l = matched s (decodings ns) w x l
 
@@ -79,14 +79,14 @@ module _ (g : Given) (sd : Sides) (p : Prepares g sd) (lent : ℕ) (c : Columns)
   start-sides h = refused-reply _ _ _ _ _ (sides-refused g sd p h (rule 15 (eqb (lentIn lent c) 0) ∷ [])) h
 
   module _ (z : sd .why .refusal .number ≡ 0) where
-    pub start-none : (why : SideRefusal) → named why ≡ naming 3 15 → lentIn lent c ≡ 0 → Starts g lent c (called-variants.Refused why) c
+    pub start-none : (why : SideRefusal) → againstOf why ≡ against 3 15 → lentIn lent c ≡ 0 → Starts g lent c (called-variants.Refused why) c
     unfolding called startRefusal
     start-none why e h =
         refused-reply _ _ _ _ _
         (e ∙ sym (sides-passed g sd p z (rule 15 (eqb (lentIn lent c) 0) ∷ []) ∙ applies 14 _ [] (eq-eqb _ _ h)))
-        (λ q. omega (arith, sym (ap (λ (x : Named). x .number) e) ∙ q))
+        (λ q. omega (arith, sym (ap (λ (x : Against). x .number) e) ∙ q))
 
-    start-passed : (lentIn lent c ≡ 0 → ⊥) → naming 0 0 ≡ startRefusal g (lentIn lent c)
+    start-passed : (lentIn lent c ≡ 0 → ⊥) → against 0 0 ≡ startRefusal g (lentIn lent c)
     unfolding startRefusal
     start-passed h = sym (sides-passed g sd p z (rule 15 (eqb (lentIn lent c) 0) ∷ []) ∙ not-applies 15 _ [] (ne-eqb _ _ h) ∙ none-left)
 
@@ -94,7 +94,7 @@ module _ (g : Given) (sd : Sides) (p : Prepares g sd) (lent : ℕ) (c : Columns)
         → Starts g lent c (called-variants.Accepted (record { settled = 0; used = 1; outcome = 0 })) (columns (set (c .places) 0 0) (set (c .sets) 0 1) (set (c .parents) 0 0) (set (c .letters) 0 0))
     unfolding called
     start-done h =
-        (λ i. exit (record { refusal = naming 0 0; values = valuesOf (recordOf started) })
+        (λ i. exit (record { refusal = against 0 0; values = valuesOf (recordOf started) })
         (columns (one (c .places) 0 (omega (arith, h)) i) (one (c .sets) 1 (omega (arith, h)) i) (one (c .parents) 0 (omega (arith, h)) i) (one (c .letters) 0 (omega (arith, h)) i)))
         ∙ done-reply _ _ _ _ (start-passed h)
       where
@@ -165,19 +165,19 @@ module _ (g : Given) (sd : Sides) (p : Prepares g sd) (lent : ℕ) (c : Columns)
     run-refused h = refused-reply _ _ _ _ _ (sides-refused g sd p h (rule 16 (impossibleFor g (lentIn lent c) (rowsIn c (r .used)) r) ∷ [])) h
 
     module _ (z : sd .why .refusal .number ≡ 0) where
-      pub run-impossible : (why : SideRefusal) → named why ≡ naming 3 16 → impossibleFor g (lentIn lent c) (rowsIn c (r .used)) r ≡ true → Runs g lent c r budget (called-variants.Refused why) c
+      pub run-impossible : (why : SideRefusal) → againstOf why ≡ against 3 16 → impossibleFor g (lentIn lent c) (rowsIn c (r .used)) r ≡ true → Runs g lent c r budget (called-variants.Refused why) c
       unfolding called runRefusal
       run-impossible why e h =
           refused-reply _ _ _ _ _
           (e ∙ sym (sides-passed g sd p z (rule 16 (impossibleFor g (lentIn lent c) (rowsIn c (r .used)) r) ∷ []) ∙ applies 15 _ [] h))
-          (λ q. omega (arith, sym (ap (λ (x : Named). x .number) e) ∙ q))
+          (λ q. omega (arith, sym (ap (λ (x : Against). x .number) e) ∙ q))
 
       pub run-done : (c′ : Columns) (w : Run) → impossibleFor g (lentIn lent c) (rowsIn c (r .used)) r ≡ false
           → Steps c c′ (run (leftOf g) (rightOf g) (roomOf (lentIn lent c)) budget (stateOf c r)) w
           → Runs g lent c r budget (called-variants.Accepted w) c′
       unfolding called runRefusal runAfter
       run-done c′ w h st =
-          (λ i. exit (record { refusal = naming 0 0; values = valuesOf (st .now i) }) (st .columns i))
+          (λ i. exit (record { refusal = against 0 0; values = valuesOf (st .now i) }) (st .columns i))
           ∙ done-reply _ _ _ _ (sym (sides-passed g sd p z (rule 16 (impossibleFor g (lentIn lent c) (rowsIn c (r .used)) r) ∷ []) ∙ not-applies 16 _ [] h ∙ none-left))
 
   -- ---- trace
@@ -196,22 +196,22 @@ module _ (g : Given) (sd : Sides) (p : Prepares g sd) (lent : ℕ) (c : Columns)
     trace-refused h = refused-reply _ _ _ _ _ (sides-refused g sd p h (rule 16 (impossibleFor g (lentIn lent c) rows r) ∷ middle)) h
 
     module _ (z : sd .why .refusal .number ≡ 0) (why : SideRefusal) where
-      early : (n : ℕ) → named why ≡ naming 3 (suc n) → traceRefusal g (lentIn lent c) rows r (length out) ≡ naming 3 (suc n) → Traces g lent c r out (tracing-variants.Refused why) out
+      early : (n : ℕ) → againstOf why ≡ against 3 (suc n) → traceRefusal g (lentIn lent c) rows r (length out) ≡ against 3 (suc n) → Traces g lent c r out (tracing-variants.Refused why) out
       unfolding tracing
-      early n e q = refused-reply _ _ _ _ _ (e ∙ sym q) (λ k. omega (arith, sym (ap (λ (x : Named). x .number) e) ∙ k))
+      early n e q = refused-reply _ _ _ _ _ (e ∙ sym q) (λ k. omega (arith, sym (ap (λ (x : Against). x .number) e) ∙ k))
 
-      passed : traceRefusal g (lentIn lent c) rows r (length out) ≡ first (map (naming 3) (rule 16 (impossibleFor g (lentIn lent c) rows r) ∷ middle))
+      passed : traceRefusal g (lentIn lent c) rows r (length out) ≡ first (map (against 3) (rule 16 (impossibleFor g (lentIn lent c) rows r) ∷ middle))
       unfolding traceRefusal
       passed = sides-passed g sd p z (rule 16 (impossibleFor g (lentIn lent c) rows r) ∷ middle)
 
-      pub trace-impossible : named why ≡ naming 3 16 → impossibleFor g (lentIn lent c) rows r ≡ true → Traces g lent c r out (tracing-variants.Refused why) out
+      pub trace-impossible : againstOf why ≡ against 3 16 → impossibleFor g (lentIn lent c) rows r ≡ true → Traces g lent c r out (tracing-variants.Refused why) out
       trace-impossible e h = early 15 e (passed ∙ applies 15 _ middle h)
 
       module _ (h : impossibleFor g (lentIn lent c) rows r ≡ false) where
-        pub trace-early : named why ≡ naming 3 17 → (r .outcome ≡ 2 → ⊥) → Traces g lent c r out (tracing-variants.Refused why) out
+        pub trace-early : againstOf why ≡ against 3 17 → (r .outcome ≡ 2 → ⊥) → Traces g lent c r out (tracing-variants.Refused why) out
         trace-early e k = early 16 e (passed ∙ not-applies 16 _ middle h ∙ applies 16 _ late (ap not (ne-eqb _ _ k)))
 
-        pub trace-short : named why ≡ naming 3 18 → r .outcome ≡ 2 → length out < length (traceOf rows (r .settled)) → Traces g lent c r out (tracing-variants.Refused why) out
+        pub trace-short : againstOf why ≡ against 3 18 → r .outcome ≡ 2 → length out < length (traceOf rows (r .settled)) → Traces g lent c r out (tracing-variants.Refused why) out
         trace-short e k l = early 17 e (passed ∙ not-applies 16 _ middle h ∙ not-applies 17 _ late (ap not (eq-eqb _ _ k)) ∙ applies 17 _ [] (lt-ltb _ _ l))
 
     pub trace-done : sd .why .refusal .number ≡ 0 → impossibleFor g (lentIn lent c) rows r ≡ false → r .outcome ≡ 2 → (t : Traceable c r) (n : ℕ) (out′ : List ℕ)
@@ -221,7 +221,7 @@ module _ (g : Given) (sd : Sides) (p : Prepares g sd) (lent : ℕ) (c : Columns)
     unfolding tracing traceRefusal
     trace-done z h k t n out′ e l o =
         let size : n ≡ length (traceOf rows (r .settled)) = e ∙ ap length (sym (t .word)) in
-        (λ i. exit (record { refusal = naming 0 0; values = size i ∷ [] }) ((o ∙ ap (λ (w : List ℕ). front w out) (sym (t .word))) i))
+        (λ i. exit (record { refusal = against 0 0; values = size i ∷ [] }) ((o ∙ ap (λ (w : List ℕ). front w out) (sym (t .word))) i))
         ∙ done-reply _ _ _ _
         (sym (sides-passed g sd p z (rule 16 (impossibleFor g (lentIn lent c) rows r) ∷ middle)
         ∙ not-applies 16 _ middle h

@@ -15,26 +15,26 @@ use Rattle.places.specs.declared.Side.{Side}
 use Rattle.places.specs.Side.{sideOf, noSide, prepareOf}
 use Rattle.goals.specs.declared.SideRefusal.{SideRefusal}
 use Rattle.columns.specs.declared.Sides.{Sides}
-use Rattle.goals.specs.Refusals.{Given, leftOf, rightOf, Named, naming, named, first, sideRows, refusalOf, Reply, Leaves, exit, leaves}
+use Rattle.goals.specs.Refusals.{Given, leftOf, rightOf, Against, against, againstOf, first, sideRules, refusalOf, Reply, Leaves, exit, leaves}
 use Rattle.columns.specs.Core.{refusedBy, Prepares}
 
 -- ---- the first of the rows
-pub first-here : (side n : ℕ) (rs : List Named) → (n ≡ 0 → ⊥) → first (naming side n ∷ rs) ≡ naming side n
+pub first-here : (side n : ℕ) (rs : List Against) → (n ≡ 0 → ⊥) → first (against side n ∷ rs) ≡ against side n
 unfolding first
 first-here side n rs h = rw (ne-eqb n 0 h)
 
-pub first-skip : (side n : ℕ) (rs : List Named) → n ≡ 0 → first (naming side n ∷ rs) ≡ first rs
+pub first-skip : (side n : ℕ) (rs : List Against) → n ≡ 0 → first (against side n ∷ rs) ≡ first rs
 unfolding first
 first-skip side n rs e = rw (eq-eqb n 0 e)
 
 -- a single row
-pub first-rule : (side k : ℕ) (b : Bool) → first (naming side (rule (suc k) b) ∷ []) ≡ cond b (naming side (suc k)) (naming 0 0)
+pub first-rule : (side k : ℕ) (b : Bool) → first (against side (rule (suc k) b) ∷ []) ≡ cond b (against side (suc k)) (against 0 0)
 unfolding first
 first-rule side k true = rw (ne-eqb (suc k) 0 (λ e. omega (arith, e)))
 first-rule side k false = refl
 
 -- none is a refusal
-first-none : (r : Named) (rs : List Named) → first (r ∷ rs) .number ≡ 0 → (r .number ≡ 0) × (first rs .number ≡ 0)
+first-none : (r : Against) (rs : List Against) → first (r ∷ rs) .number ≡ 0 → (r .number ≡ 0) × (first rs .number ≡ 0)
 unfolding first
 first-none r rs h = by (eqb (r .number) 0) refl h
   where
@@ -43,7 +43,7 @@ first-none r rs h = by (eqb (r .number) 0) refl h
     by false e z = absurd (eqb-false _ _ e z)
 
 -- rows after a refusal, and after none
-first-more : (xs ys : List Named) → (first xs .number ≡ 0 → ⊥) → first (xs ++ ys) ≡ first xs
+first-more : (xs ys : List Against) → (first xs .number ≡ 0 → ⊥) → first (xs ++ ys) ≡ first xs
 unfolding first
 first-more [] ys h = absurd (h refl)
 first-more (x ∷ xs) ys h = by (eqb (x .number) 0) h (first-more xs ys)
@@ -52,7 +52,7 @@ first-more (x ∷ xs) ys h = by (eqb (x .number) 0) h (first-more xs ys)
     by true k more = more k
     by false k more = refl
 
-first-past : (xs ys : List Named) → first xs .number ≡ 0 → first (xs ++ ys) ≡ first ys
+first-past : (xs ys : List Against) → first xs .number ≡ 0 → first (xs ++ ys) ≡ first ys
 unfolding first
 first-past [] ys h = refl
 first-past (x ∷ xs) ys h = by (eqb (x .number) 0) refl h (first-past xs ys)
@@ -63,20 +63,20 @@ first-past (x ∷ xs) ys h = by (eqb (x .number) 0) refl h (first-past xs ys)
 
 -- both sides pass: their s decide
 pub first-both : (a b ls rs : ℕ) (t : Bool) → a ≡ 0 → b ≡ 0 → eqb ls rs ≡ t
-    → first (naming 1 a ∷ naming 2 b ∷ naming 3 (rule 14 (not (eqb ls rs))) ∷ []) ≡ cond t (naming 0 0) (naming 3 14)
+    → first (against 1 a ∷ against 2 b ∷ against 3 (rule 14 (not (eqb ls rs))) ∷ []) ≡ cond t (against 0 0) (against 3 14)
 unfolding first
 first-both a b ls rs true e f h = rw (eq-eqb a 0 e, eq-eqb b 0 f, h)
 first-both a b ls rs false e f h = rw (eq-eqb a 0 e, eq-eqb b 0 f, h)
 
 -- ---- a refusal by value
-pub refused-some : (why : SideRefusal) → (why .refusal .number ≡ 0 → ⊥) → refusedBy why ≡ named why
+pub refused-some : (why : SideRefusal) → (why .refusal .number ≡ 0 → ⊥) → refusedBy why ≡ againstOf why
 refused-some why h = rw (ne-eqb (why .refusal .number) 0 h)
 
-refused-none : (why : SideRefusal) → why .refusal .number ≡ 0 → refusedBy why ≡ naming 0 0
+refused-none : (why : SideRefusal) → why .refusal .number ≡ 0 → refusedBy why ≡ against 0 0
 refused-none why e = rw (eq-eqb (why .refusal .number) 0 e)
 
-pub refused-named : (why : SideRefusal) (side n : ℕ) → named why ≡ naming side n → refusedBy why ≡ cond (eqb n 0) (naming 0 0) (naming side n)
-refused-named why side n e = ap (λ (x : Named). cond (eqb (x .number) 0) (naming 0 0) x) e
+pub refused-named : (why : SideRefusal) (side n : ℕ) → againstOf why ≡ against side n → refusedBy why ≡ cond (eqb n 0) (against 0 0) (against side n)
+refused-named why side n e = ap (λ (x : Against). cond (eqb (x .number) 0) (against 0 0) x) e
 
 -- ---- both sides
 -- the rows of the sides are none of them refusals
@@ -85,7 +85,7 @@ pub record Passes (g : Given) : Type 0 where
   pub right : sideRefusal (g .rs) (decodings (g .right)) ≡ 0
   pub same : g .ls ≡ g .rs
 
-sides-pass : (g : Given) → first (sideRows g) .number ≡ 0 → Passes g
+sides-pass : (g : Given) → first (sideRules g) .number ≡ 0 → Passes g
 sides-pass g h =
     let a = first-none _ _ h in
     let b = first-none _ _ (a .1) in
@@ -105,7 +105,7 @@ unfolding prepareOf
 prepared-number s ns a e = ap (λ (t : Prepared). t .refusal .number) e
 
 pub prepares : (g : Given) (a b : Prepared) (why : SideRefusal) → a ≡ prepareOf (g .ls) (g .left) → b ≡ prepareOf (g .rs) (g .right)
-    → refusedBy why ≡ first (naming 1 (a .refusal .number) ∷ naming 2 (b .refusal .number) ∷ naming 3 (rule 14 (not (eqb (g .ls) (g .rs)))) ∷ [])
+    → refusedBy why ≡ first (against 1 (a .refusal .number) ∷ against 2 (b .refusal .number) ∷ against 3 (rule 14 (not (eqb (g .ls) (g .rs)))) ∷ [])
     → Prepares g (record { why = why; left = a .side; right = b .side })
 prepares g a b why e f h =
     record {
@@ -114,30 +114,30 @@ prepares g a b why e f h =
       right = λ z. prepared-side (g .rs) (g .right) b f (passes z .right);
     }
   where
-    judged : refusedBy why ≡ first (sideRows g)
-    judged = h ∙ (λ i. first (naming 1 (prepared-number (g .ls) (g .left) a e i) ∷ naming 2 (prepared-number (g .rs) (g .right) b f i) ∷ naming 3 (rule 14 (not (eqb (g .ls) (g .rs)))) ∷ []))
+    judged : refusedBy why ≡ first (sideRules g)
+    judged = h ∙ (λ i. first (against 1 (prepared-number (g .ls) (g .left) a e i) ∷ against 2 (prepared-number (g .rs) (g .right) b f i) ∷ against 3 (rule 14 (not (eqb (g .ls) (g .rs)))) ∷ []))
 
     passes : why .refusal .number ≡ 0 → Passes g
-    passes z = sides-pass g (ap (λ (x : Named). x .number) (sym judged ∙ refused-none why z))
+    passes z = sides-pass g (ap (λ (x : Against). x .number) (sym judged ∙ refused-none why z))
 
 -- ---- what a call leaves
-pub leaves-refused : {Lent : Type 0} (why : Named) (values : List ℕ) (changed lent : Lent) → (why .number ≡ 0 → ⊥)
+pub leaves-refused : {Lent : Type 0} (why : Against) (values : List ℕ) (changed lent : Lent) → (why .number ≡ 0 → ⊥)
     → exit (record { refusal = why; values = [] }) lent ≡ leaves why values changed lent
 leaves-refused why values changed lent h = rw (ne-eqb (why .number) 0 h)
 
 module _ (g : Given) (sd : Sides) (p : Prepares g sd) where
   -- a refusal of the sides is the call's, whatever the rest
-  pub sides-refused : (sd .why .refusal .number ≡ 0 → ⊥) → (rest : List ℕ) → named (sd .why) ≡ refusalOf g rest
+  pub sides-refused : (sd .why .refusal .number ≡ 0 → ⊥) → (rest : List ℕ) → againstOf (sd .why) ≡ refusalOf g rest
   sides-refused h rest =
       let e = sym (refused-some (sd .why) h) ∙ p .why in
-      e ∙ sym (first-more (sideRows g) _ (λ z. h (ap (λ (x : Named). x .number) e ∙ z)))
+      e ∙ sym (first-more (sideRules g) _ (λ z. h (ap (λ (x : Against). x .number) e ∙ z)))
 
   -- with none of the sides the rest decide
-  sides-none : sd .why .refusal .number ≡ 0 → first (sideRows g) .number ≡ 0
-  sides-none z = ap (λ (x : Named). x .number) (sym (p .why) ∙ refused-none (sd .why) z)
+  sides-none : sd .why .refusal .number ≡ 0 → first (sideRules g) .number ≡ 0
+  sides-none z = ap (λ (x : Against). x .number) (sym (p .why) ∙ refused-none (sd .why) z)
 
-  pub sides-passed : sd .why .refusal .number ≡ 0 → (rest : List ℕ) → refusalOf g rest ≡ first (mathlib.Core.List.map (naming 3) rest)
-  sides-passed z rest = first-past (sideRows g) _ (sides-none z)
+  pub sides-passed : sd .why .refusal .number ≡ 0 → (rest : List ℕ) → refusalOf g rest ≡ first (mathlib.Core.List.map (against 3) rest)
+  sides-passed z rest = first-past (sideRules g) _ (sides-none z)
 
   pub both-formed : sd .why .refusal .number ≡ 0 → WellFormed (g .ls) (decodings (g .left)) × WellFormed (g .rs) (decodings (g .right)) × (g .ls ≡ g .rs)
   both-formed z =

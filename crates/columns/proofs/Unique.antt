@@ -9,7 +9,7 @@ use Rattle.goals.specs.declared.Run.{Run}
 use Rattle.goals.specs.declared.Which.{Which}
 use Rattle.goals.specs.declared.Which.the-variants.{Left, Right, Both}
 use Rattle.goals.specs.declared.SideRefusal.{SideRefusal}
-use Rattle.goals.specs.Refusals.{Given, Named, sideNumber, named, Reply, Leaves}
+use Rattle.goals.specs.Refusals.{Given, Against, sideNumber, againstOf, Reply, Leaves}
 use Rattle.columns.specs.declared.Called.{Called}
 use Rattle.columns.specs.declared.Called.the-variants as called-variants
 use Rattle.columns.specs.declared.Tracing.{Tracing}
@@ -35,8 +35,8 @@ side-one Both Left e = absurd (omega (arith, e))
 side-one Both Right e = absurd (omega (arith, e))
 side-one Both Both e = refl
 
-refusal-one : (a b : SideRefusal) → named a ≡ named b → a ≡ b
-refusal-one a b e = λ i. record { side = side-one (a .side) (b .side) (ap (λ (n : Named). n .side) e) i; refusal = record { number = ap (λ (n : Named). n .number) e i } }
+refusal-one : (a b : SideRefusal) → againstOf a ≡ againstOf b → a ≡ b
+refusal-one a b e = λ i. record { side = side-one (a .side) (b .side) (ap (λ (n : Against). n .side) e) i; refusal = record { number = ap (λ (n : Against). n .number) e i } }
 
 pub called-one : (r r′ : Called) → called r ≡ called r′ → r ≡ r′
 unfolding called

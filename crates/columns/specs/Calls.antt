@@ -8,7 +8,7 @@ use Rattle.goals.specs.declared.Row.{Row}
 use Rattle.goals.specs.declared.Run.{Run}
 use Rattle.goals.specs.Goals.{row}
 use Rattle.goals.specs.Run.{State, state, started, traceOf}
-use Rattle.goals.specs.Refusals.{Given, recordOf, startRefusal, runRefusal, traceRefusal, naming, named, Reply, leaves, exit, valuesOf, runAfter}
+use Rattle.goals.specs.Refusals.{Given, recordOf, startRefusal, runRefusal, traceRefusal, against, againstOf, Reply, leaves, exit, valuesOf, runAfter}
 use Rattle.columns.specs.declared.Called.{Called}
 use Rattle.columns.specs.declared.Called.the-variants as called-variants
 use Rattle.columns.specs.declared.Tracing.{Tracing}
@@ -51,13 +51,13 @@ stateOf c r = state (rowsIn c (r .used)) (r .settled) (r .outcome)
 
 -- the number and values of each case of what start and run answer: settled, used and outcome, or a refusal
 unfoldable pub called : Called → Reply
-called (called-variants.Accepted r) = record { refusal = naming 0 0; values = valuesOf r }
-called (called-variants.Refused why) = record { refusal = named why; values = [] }
+called (called-variants.Accepted r) = record { refusal = against 0 0; values = valuesOf r }
+called (called-variants.Refused why) = record { refusal = againstOf why; values = [] }
 
 -- and of what trace answers: the number of letters, or a refusal
 unfoldable pub tracing : Tracing → Reply
-tracing (tracing-variants.Accepted n) = record { refusal = naming 0 0; values = n ∷ [] }
-tracing (tracing-variants.Refused why) = record { refusal = named why; values = [] }
+tracing (tracing-variants.Accepted n) = record { refusal = against 0 0; values = n ∷ [] }
+tracing (tracing-variants.Refused why) = record { refusal = againstOf why; values = [] }
 
 -- the promise of `start_on`
 abbrev pub Starts : Given → ℕ → Columns → Called → Columns → Type 0

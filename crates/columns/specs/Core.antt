@@ -17,7 +17,7 @@ use Rattle.goals.specs.declared.Run.{Run}
 use Rattle.goals.specs.Run.{State}
 use Rattle.goals.specs.declared.SideRefusal.{SideRefusal}
 use Rattle.columns.specs.declared.Sides.{Sides}
-use Rattle.goals.specs.Refusals.{Given, leftOf, rightOf, recordOf, Named, naming, named, first, sideRows}
+use Rattle.goals.specs.Refusals.{Given, leftOf, rightOf, recordOf, Against, against, againstOf, first, sideRules}
 use Rattle.columns.specs.Calls.{Columns, put}
 
 -- the columns have room for so many rows, of which so many are used
@@ -61,8 +61,8 @@ pub record Steps (before after : Columns) (st : State) (r : Run) : Type 0 where
   pub now : r ≡ recordOf st
 
 -- a side by value whose letters can be worked out signal by signal
-abbrev pub Lettered : Side → Type 0
-Lettered sd = (x : ℕ) → x < 2 ^ (sd .s) → matchingBy (namingOf sd) (sd .s) (sd .count) x ≡ matching sd x
+abbrev pub Matchable : Side → Type 0
+Matchable sd = (x : ℕ) → x < 2 ^ (sd .s) → matchingBy (namingOf sd) (sd .s) (sd .count) x ≡ matching sd x
 
 -- a run that can be gone on with, decided or not
 pub record Runnable (c : Columns) (room : ℕ) (left right : Side) (r : Run) : Type 0 where
@@ -70,16 +70,16 @@ pub record Runnable (c : Columns) (room : ℕ) (left right : Side) (r : Run) : T
   pub unsettled : (r .outcome ≡ 1 → ⊥) → r .settled < r .used
   pub few : left .s ≤ 16
   pub signals : right .s ≡ left .s
-  pub on-left : Lettered left
-  pub on-right : Lettered right
+  pub on-left : Matchable left
+  pub on-right : Matchable right
 
 -- the refusal that is none where its number is 0
-abbrev pub refusedBy : SideRefusal → Named
-refusedBy why = cond (eqb (why .refusal .number) 0) (naming 0 0) (named why)
+abbrev pub refusedBy : SideRefusal → Against
+refusedBy why = cond (eqb (why .refusal .number) 0) (against 0 0) (againstOf why)
 
 -- both sides, or why there are none
 pub record Prepares (g : Given) (r : Sides) : Type 0 where
-  pub why : refusedBy (r .why) ≡ first (sideRows g)
+  pub why : refusedBy (r .why) ≡ first (sideRules g)
   pub left : r .why .refusal .number ≡ 0 → r .left ≡ leftOf g
   pub right : r .why .refusal .number ≡ 0 → r .right ≡ rightOf g
 

@@ -19,7 +19,7 @@ ghost use Rattle.places.specs.Matching.{matchingBy};
 ghost use Rattle.goals.specs.Goals.{row, eachMember, eachLetter, bad, enter, enterAll};
 ghost use Rattle.places.specs.Readings.{spreadTo};
 ghost use Rattle.goals.specs.Run.{settle, step, steps, run};
-ghost use Rattle.goals.specs.Refusals.{given, roomOf, recordOf, recordImpossible, rowZeroImpossible, rowImpossible, impossible, naming, named, first};
+ghost use Rattle.goals.specs.Refusals.{given, roomOf, recordOf, recordImpossible, rowZeroImpossible, rowImpossible, impossible, against, againstOf, first};
 ghost use Rattle.columns.specs.Calls.{columns, rowAt, rowsIn, lentIn, stateOf, Starts, Runs, Traces};
 ghost use Rattle.columns.specs.Core.{Fits, Enters, entering, lettered, Ready, Steps, Runnable, refusedBy, Prepares, Rooted, climb};
 
@@ -170,7 +170,7 @@ fn enter_members(
     }
 }
 
-// Enters the goals of the letter x. Most letters have none, and are done with at once.
+// Enters the goals of the letter x. One that no follower matches is passed at once.
 fn enter_letter(
     places: &mut [u8],
     sets: &mut [u64],
@@ -460,7 +460,7 @@ fn is_impossible(
 
 // A refusal that names both sides.
 fn both(number: u8) -> SideRefusal
-    ensures { λ r. ⌜ named r ≡ naming 3 number ⌝ }
+    ensures { λ r. ⌜ againstOf r ≡ against 3 number ⌝ }
 {
     SideRefusal {
         side: Which::Both,
@@ -470,7 +470,7 @@ fn both(number: u8) -> SideRefusal
 
 // The refusal of two sides, left before right; number 0 where there is none.
 fn sides_refusal(ls: u8, left: Refusal, rs: u8, right: Refusal) -> SideRefusal
-    ensures { λ r. ⌜ refusedBy r ≡ first (naming 1 (left .number) ∷ naming 2 (right .number) ∷ naming 3 (rule 14 (not (eqb ls rs))) ∷ []) ⌝ }
+    ensures { λ r. ⌜ refusedBy r ≡ first (against 1 (left .number) ∷ against 2 (right .number) ∷ against 3 (rule 14 (not (eqb ls rs))) ∷ []) ⌝ }
 {
     if left.number != 0 {
         return SideRefusal {

@@ -1,18 +1,17 @@
 -- Any two results that meet a promise are equal: each promise is an equation of the result.
 use Prim.Native.Nat.{ℕ}
 use mathlib.Core.Path.{_≡_, sym, _∙_}
-use mathlib.Core.Bool.{Bool, _&&_}
+use mathlib.Core.Bool.{Bool}
 use mathlib.Core.List.{List}
-use lib.Dec.{eqb}
 use lib.ListN.{getD}
 use Rattle.places.specs.declared.Side.{Side}
 use Rattle.places.specs.Readings.{spreadTo}
 use Rattle.goals.specs.declared.Row.{Row}
 use Rattle.goals.specs.declared.Run.{Run}
-use Rattle.goals.specs.Goals.{badGoal}
+use Rattle.goals.specs.Goals.{badGoal, sameGoal}
 use Rattle.goals.specs.Refusals.{roomOf, recordImpossible, rowZeroImpossible, rowImpossible}
 
-pub same-goal-one : (p x q y : ℕ) (r r′ : Bool) → r ≡ (eqb p q && eqb x y) → r′ ≡ (eqb p q && eqb x y) → r ≡ r′
+pub same-goal-one : (p x q y : ℕ) (r r′ : Bool) → r ≡ sameGoal p x q y → r′ ≡ sameGoal p x q y → r ≡ r′
 same-goal-one p x q y r r′ e f = e ∙ sym f
 
 pub is-bad-one : (left right place members : ℕ) (r r′ : Bool) → r ≡ badGoal left right place members → r′ ≡ badGoal left right place members → r ≡ r′

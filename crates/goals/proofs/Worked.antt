@@ -15,31 +15,31 @@ use Rattle.goals.specs.Cases.{comparisons, Gives, Each}
 pub worked : Each Gives comparisons
 unfolding Each bit kindOf decodeOf fieldsOf numberOf lowest lowestNode someBelow someChild claimed namesBeyond twins nodeRefusal oneIfInstant instants refusalAt tableRefusal sideRefusal place numberedNode numberedTo rounds hasEmpty firstOf lastOf followOf after accepting listOf presentIn absentIn masksTo sideOf matchingTo spreadTo badGoal eachMember eachLetter candidates known enter enterAll settle step steps run wordIn roomOf recordImpossible rowZeroImpossible rowImpossible impossible first startRefusal runRefusal runAfter
 worked = (
-  record { starts = refl; runs = refl; leaves = refl },
+  record { starts = refl; runs = refl; shows = refl },
   (
-    record { starts = refl; runs = refl; leaves = refl },
+    record { starts = refl; runs = refl; shows = refl },
     (
-      record { starts = refl; runs = refl; leaves = refl },
+      record { starts = refl; runs = refl; shows = refl },
       (
-        record { starts = refl; runs = refl; leaves = refl },
+        record { starts = refl; runs = refl; shows = refl },
         (
-          record { starts = refl; runs = refl; leaves = refl },
+          record { starts = refl; runs = refl; shows = refl },
           (
-            record { starts = refl; runs = refl; leaves = refl },
+            record { starts = refl; runs = refl; shows = refl },
             (
-              record { starts = refl; runs = refl; leaves = refl },
+              record { starts = refl; runs = refl; shows = refl },
               (
-                record { starts = refl; runs = refl; leaves = refl },
+                record { starts = refl; runs = refl; shows = refl },
                 (
-                  record { starts = refl; runs = refl; leaves = refl },
+                  record { starts = refl; runs = refl; shows = refl },
                   (
-                    record { starts = refl; runs = refl; leaves = refl },
+                    record { starts = refl; runs = refl; shows = refl },
                     (
-                      record { starts = refl; runs = refl; leaves = refl },
+                      record { starts = refl; runs = refl; shows = refl },
                       (
-                        record { starts = refl; runs = refl; leaves = refl },
+                        record { starts = refl; runs = refl; shows = refl },
                         (
-                          record { starts = refl; runs = refl; leaves = refl },
+                          record { starts = refl; runs = refl; shows = refl },
                           tt,
                         ),
                       ),

@@ -1,5 +1,6 @@
--- "Comparisons with their rows": C1 to C12 with C5r, and what it is to give what the table lists.
-use Prim.Native.Nat.{ℕ, zero, suc}
+-- "Comparisons with their rows": C1 to C12 with C5r, and what it is that the run's rules give what the table lists. (What the
+-- meaning says of them is stated with the demands.)
+use Prim.Native.Nat.{ℕ}
 use mathlib.Core.Path.{_≡_}
 use mathlib.Core.Bool.{cond}
 use mathlib.Core.List.{List, [], _∷_, map}
@@ -11,7 +12,7 @@ use Rattle.effect.specs.declared.Numbered.{Numbered}
 use Rattle.effect.specs.declared.Numbered.the-variants.{Of, Wide}
 use Rattle.effect.specs.Node.{numberOf}
 use Rattle.goals.specs.Run.{State, started, traceOf}
-use Rattle.goals.specs.Refusals.{Given, given, recordOf, naming, startRefusal, runRefusal, runAfter}
+use Rattle.goals.specs.Refusals.{Given, given, recordOf, against, startRefusal, runRefusal, runAfter}
 
 -- a comparison of two tables with the same s, in a room
 pub record Case : Type 0 where
@@ -97,9 +98,9 @@ shown st =
 
 -- the run's rules give what is listed: start accepts, and a run call with the room as its budget is accepted and leaves it
 pub record Gives (c : Comparison) : Type 0 where
-  pub starts : startRefusal (givenBy (c .case)) (c .case .room) ≡ naming 0 0
-  pub runs : runRefusal (givenBy (c .case)) (c .case .room) (started .rows) (recordOf started) ≡ naming 0 0
-  pub leaves : shown (runAfter (givenBy (c .case)) (c .case .room) (started .rows) (recordOf started) (c .case .room)) ≡ c .listed
+  pub starts : startRefusal (givenBy (c .case)) (c .case .room) ≡ against 0 0
+  pub runs : runRefusal (givenBy (c .case)) (c .case .room) (started .rows) (recordOf started) ≡ against 0 0
+  pub shows : shown (runAfter (givenBy (c .case)) (c .case .room) (started .rows) (recordOf started) (c .case .room)) ≡ c .listed
 
 -- of every comparison of a list
 unfoldable pub Each : (Comparison → Type 0) → List Comparison → Type 0

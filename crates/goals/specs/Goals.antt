@@ -23,17 +23,18 @@ unfoldable pub badGoal : ℕ → ℕ → ℕ → ℕ → Bool
 badGoal left right place set = has left place && eqb (bitAnd set right) 0
 
 abbrev pub bad : Side → Side → Row → Bool
-bad l r w = badGoal (l .accepts) (r .accepts) (w .place) (w .set)
+bad left right w = badGoal (left .accepts) (right .accepts) (w .place) (w .set)
 
--- the row f j of each member j below n of the set m, ascending
+-- the row f j of each member j of the set S that is below n, ascending
 unfoldable pub eachMember : ℕ → (ℕ → Row) → ℕ → List Row
-eachMember m f zero = []
-eachMember m f (suc j) = eachMember m f j ++ cond (has m j) (f j ∷ []) []
+eachMember S f zero = []
+eachMember S f (suc j) = eachMember S f j ++ cond (has S j) (f j ∷ []) []
 
 -- The goals that the letter x leads to from row i, which is w: "the left followers ascending that match it: the new goal is
 -- that place with all right places that follow a member of the set and match".
 abbrev pub goalsOf : Side → Side → ℕ → Row → ℕ → List Row
-goalsOf l r i w x = eachMember (bitAnd (followers l (w .place)) (matching l x)) (λ j. row j (post r (w .set) x) i x) 64
+goalsOf left right i w x =
+    eachMember (bitAnd (followers left (w .place)) (matching left x)) (λ j. row j (post right (w .set) x) i x) 64
 
 -- what f gives for each letter below n: "letters ascending"
 unfoldable pub eachLetter : (ℕ → List Row) → ℕ → List Row
@@ -42,12 +43,16 @@ eachLetter f (suc x) = eachLetter f x ++ f x
 
 -- all that row i leads to, in the order of entry
 unfoldable pub candidates : Side → Side → ℕ → Row → List Row
-candidates l r i w = eachLetter (goalsOf l r i w) (2 ^ (l .s))
+candidates left right i w = eachLetter (goalsOf left right i w) (2 ^ (left .s))
+
+-- two goals, each a place and a set, are one
+abbrev pub sameGoal : ℕ → ℕ → ℕ → ℕ → Bool
+sameGoal place set place′ set′ = eqb place place′ && eqb set set′
 
 -- a row has the place and set of c
 unfoldable pub known : Row → List Row → Bool
 known c [] = false
-known c (w ∷ ws) = (eqb (w .place) (c .place) && eqb (w .set) (c .set)) || known c ws
+known c (w ∷ ws) = sameGoal (w .place) (w .set) (c .place) (c .set) || known c ws
 
 -- the used rows while goals are entered; full: a goal found no room
 pub record Entered : Type 0 where

@@ -1,6 +1,5 @@
 -- What a comparison call is given, refusals 14 to 18, and what a call answers and leaves.
-use Prim.Native.Nat.{ℕ, zero, suc, _+_, min}
-use mathlib.Core.Path.{_≡_}
+use Prim.Native.Nat.{ℕ, _+_, min}
 use mathlib.Core.Bool.{Bool, cond, not, _||_, _&&_}
 use mathlib.Core.List.{List, [], _∷_, _++_, map}
 use lib.Dec.{eqb, ltb, leb}
@@ -74,44 +73,44 @@ impossible s m k room rows r =
     || (rowZeroImpossible (getD rows 0 rowZero)
     || someBelow (r .used) (λ i. not (eqb i 0) && rowImpossible s m k i (getD rows i rowZero)))
 
--- A refusal as a comparison gives it: its number (0 is none) and the side that it names (1 left, 2 right, 3 both).
-pub record Named : Type 0 where
+-- A refusal as a comparison gives it: its number and the side that it names (1 left, 2 right, 3 both); 0 and 0 are none.
+pub record Against : Type 0 where
   pub side : ℕ
   pub number : ℕ
 
-abbrev pub naming : ℕ → ℕ → Named
-naming side number = record { side = side; number = number }
+abbrev pub against : ℕ → ℕ → Against
+against side number = record { side = side; number = number }
 
--- the first of the rows that is a refusal
-unfoldable pub first : List Named → Named
-first [] = naming 0 0
+-- the first of the rules that applies
+unfoldable pub first : List Against → Against
+first [] = against 0 0
 first (r ∷ rs) = cond (eqb (r .number) 0) (first rs) r
 
 -- "2, 3, 7 to 12 for the left, then the same for the right, each naming the side, then the rest, naming both"
-abbrev pub sideRows : Given → List Named
-sideRows g =
-    naming 1 (sideRefusal (g .ls) (decodings (g .left)))
-    ∷ naming 2 (sideRefusal (g .rs) (decodings (g .right)))
+abbrev pub sideRules : Given → List Against
+sideRules g =
+    against 1 (sideRefusal (g .ls) (decodings (g .left)))
+    ∷ against 2 (sideRefusal (g .rs) (decodings (g .right)))
     -- "the two sides' s differ"
-    ∷ naming 3 (rule 14 (not (eqb (g .ls) (g .rs))))
+    ∷ against 3 (rule 14 (not (eqb (g .ls) (g .rs))))
     ∷ []
 
-abbrev pub refusalOf : Given → List ℕ → Named
-refusalOf g rest = first (sideRows g ++ map (naming 3) rest)
+abbrev pub refusalOf : Given → List ℕ → Against
+refusalOf g rest = first (sideRules g ++ map (against 3) rest)
 
 -- 15: "start with a row table of no rows"
-unfoldable pub startRefusal : Given → ℕ → Named
+unfoldable pub startRefusal : Given → ℕ → Against
 startRefusal g lent = refusalOf g (rule 15 (eqb lent 0) ∷ [])
 
--- 16 of both sides: the rows lent, the used rows and the record
+-- 16 for the two sides given: the rows lent, the used rows and the record
 abbrev pub impossibleFor : Given → ℕ → List Row → Run → Bool
 impossibleFor g lent rows r = impossible (g .ls) (leftOf g .count) (rightOf g .count) (roomOf lent) rows r
 
-unfoldable pub runRefusal : Given → ℕ → List Row → Run → Named
+unfoldable pub runRefusal : Given → ℕ → List Row → Run → Against
 runRefusal g lent rows r = refusalOf g (rule 16 (impossibleFor g lent rows r) ∷ [])
 
 -- for a buffer of that many bytes
-unfoldable pub traceRefusal : Given → ℕ → List Row → Run → ℕ → Named
+unfoldable pub traceRefusal : Given → ℕ → List Row → Run → ℕ → Against
 traceRefusal g lent rows r buffer =
     refusalOf g
     (rule 16 (impossibleFor g lent rows r)
@@ -121,18 +120,18 @@ traceRefusal g lent rows r buffer =
     ∷ rule 18 (ltb buffer (length (traceOf rows (r .settled))))
     ∷ [])
 
--- the side and number that a refusal has
+-- the side that a refusal names, and the refusal as above
 unfoldable pub sideNumber : Which → ℕ
 sideNumber Left = 1
 sideNumber Right = 2
 sideNumber Both = 3
 
-abbrev pub named : SideRefusal → Named
-named why = naming (sideNumber (why .side)) (why .refusal .number)
+abbrev pub againstOf : SideRefusal → Against
+againstOf why = against (sideNumber (why .side)) (why .refusal .number)
 
 -- An answer in document 01's terms: the refusal with no values, or none with the values.
 pub record Reply : Type 0 where
-  pub refusal : Named
+  pub refusal : Against
   pub values : List ℕ
 
 -- What a call leaves: its answer, and what was lent at exit.
@@ -141,7 +140,7 @@ pub record Leaves (Lent : Type 0) : Type 0 where
   pub lent : Lent
 
 -- "A refusal changes no lent buffer, table or record."
-abbrev pub leaves : {Lent : Type 0} → Named → List ℕ → Lent → Lent → Leaves Lent
+abbrev pub leaves : {Lent : Type 0} → Against → List ℕ → Lent → Lent → Leaves Lent
 leaves why values changed lent =
     record {
       reply = record { refusal = why; values = cond (eqb (why .number) 0) values [] };

@@ -1,6 +1,6 @@
 -- A run: its state, one step, a call with a budget, the trace of a row.
 use Prim.Native.Nat.{ℕ, zero, suc}
-use mathlib.Core.Bool.{Bool, true, false, cond, _||_}
+use mathlib.Core.Bool.{true, false, cond, _||_}
 use mathlib.Core.List.{List, [], _∷_, _++_}
 use lib.Dec.{eqb}
 use lib.ListN.{length, getD}
@@ -17,7 +17,7 @@ pub record State : Type 0 where
 abbrev pub state : List Row → ℕ → ℕ → State
 state rows settled outcome = record { rows = rows; settled = settled; outcome = outcome }
 
--- "Start writes row 0, settled 0, used 1, outcome 0"
+-- "Start writes row 0 .., settled 0, used 1, outcome 0"
 abbrev pub started : State
 started = state (rowZero ∷ []) 0 0
 
@@ -28,7 +28,8 @@ settle r e =
     cond (e .full) (state (e .rows) r 3)
     (state (e .rows) (suc r) (cond (eqb (suc r) (length (e .rows))) 1 0))
 
--- "each step takes row r = settled: bad: outcome 2, and r is the refuted row"; else its goals are entered
+-- "each step takes row r = settled": bad, "outcome 2, and r is the refuted row"; else its goals are entered. (A possible record
+-- has that row; past the end there is the start row.)
 unfoldable pub step : Side → Side → ℕ → State → State
 step left right room st =
     let r = st .settled in

@@ -7,7 +7,7 @@ ghost use lib.Dec.{eqb};
 ghost use lib.ListN.{getD};
 ghost use Rattle.bits.specs.Bit.{has};
 ghost use Rattle.places.specs.Readings.{spreadTo};
-ghost use Rattle.goals.specs.Goals.{badGoal};
+ghost use Rattle.goals.specs.Goals.{badGoal, sameGoal};
 ghost use Rattle.goals.specs.Refusals.{roomOf, recordImpossible, rowZeroImpossible, rowImpossible};
 
 // A row of the goal table: a left place, a set of right places (bit j for place j), the row that it was entered from and
@@ -41,12 +41,12 @@ pub struct SideRefusal {
 
 // Whether two goals are one.
 pub fn same_goal(a_place: u8, a_set: u64, b_place: u8, b_set: u64) -> bool
-    ensures { λ r. ⌜ r ≡ (eqb «a_place» «b_place» && eqb «a_set» «b_set») ⌝ }
+    ensures { λ r. ⌜ r ≡ sameGoal «a_place» «a_set» «b_place» «b_set» ⌝ }
 {
     (a_place == b_place) & (a_set == b_set)
 }
 
-// Whether a goal is bad: its left place accepts and no member of its set does.
+// Whether a goal is bad: its left place accepts and no member of its set does. `left` and `right` are the places that accept.
 pub fn is_bad(left: u64, right: u64, place: u8, set: u64) -> bool
     ensures { λ r. ⌜ r ≡ badGoal left right place set ⌝ }
 {
