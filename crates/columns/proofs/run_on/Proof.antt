@@ -1,12 +1,44 @@
 -- `columns::run_on`. Refused for a side, refused for the record or its rows, or what `run_sides` leaves.
-use mathlib.Core.Path.{sym, ap, _∙_}
+use mathlib.Core.Path.{_≡_, sym, ap, _∙_}
 use native.Mathlib.Omega.{arith}
 use borrow.Author.Needs.{needs}
-use Rattle.goals.specs.Refusals.{given, roomOf}
-use Rattle.columns.specs.Calls.{columns}
+use Rattle.goals.specs.Refusals.{Given, given, roomOf, impossibleFor}
+use Rattle.columns.specs.Calls.{Columns, columns, rowsIn, lentIn}
 use Rattle.columns.proofs.Calling.{run-refused, run-impossible, run-done, impossible-is, fits-room, runnable, run-given}
 use Rattle.columns.proofs.run_on.Statement.{statement}
 use Rattle.columns.proofs.run_on.Tie as tie
+
+-- what was given and lent, at the place where the sides were prepared
+abbrev given-at : tie.After-sides-of → Given
+given-at s = let a = s .before .before .before .before .before .before .before .args in given (a .ls) (a .left .now) (a .rs) (a .right .now)
+
+abbrev columns-at : tie.After-sides-of → Columns
+columns-at s = let a = s .before .before .before .before .before .before .before .args in columns (a .places .now) (a .sets .now) (a .parents .now) (a .letters .now)
+
+-- that place, seen from where the room is known, and from where 16 was asked
+abbrev before-room : tie.After-room-of → tie.After-sides-of
+before-room q = q .before .before .before .before .before .before .before .before .before .before .before
+
+abbrev before-asked : tie.After-is-impossible → tie.After-sides-of
+before-asked i = before-room (i .before .before .before .before .before)
+
+-- the sides pass, and the room is that of the rows lent
+passed : (q : tie.After-room-of) → before-room q .sides-of .result .why .refusal .number ≡ 0
+passed q = q .before .before .before .before .before .before .before .before .if1 .left
+
+room-is : (q : tie.After-room-of) → let s = before-room q in q .room-of .result ≡ roomOf (lentIn (s .before .before .before .before .before .before .before .args .lent) (columns-at s))
+room-is q = q .room-of .ensures ∙ ap roomOf (q .before .lent-in .ensures)
+
+-- 16 as it was asked is 16 of what was given and lent
+asked : (i : tie.After-is-impossible) → let s = before-asked i in let r = s .before .before .before .before .before .before .before .args .run in
+    impossibleFor (given-at s) (lentIn (s .before .before .before .before .before .before .before .args .lent) (columns-at s)) (rowsIn (columns-at s) (r .used)) r ≡ i .is-impossible .result
+asked i =
+    let q = i .before .before .before .before .before in
+    let s = before-asked i in
+    let a = s .before .before .before .before .before .before .before .args in
+    impossible-is
+    (given-at s) (s .sides-of .result) (s .sides-of .ensures) (a .lent) (columns-at s) (passed q) (a .run) (q .room-of .result) (room-is q)
+    (i .is-impossible .result) (i .is-impossible .ensures)
 
 sides-of-requires : tie.Need-sides-of-requires
 sides-of-requires c κs = search needs
@@ -15,9 +47,7 @@ returns : tie.Need-returns
 returns c =
     let s = c .before .before .before in
     let a = s .before .before .before .before .before .before .before .args in
-    run-refused
-    (given (a .ls) (a .left .now) (a .rs) (a .right .now)) (s .sides-of .result) (s .sides-of .ensures) (a .lent)
-    (columns (a .places .now) (a .sets .now) (a .parents .now) (a .letters .now)) (a .run) (a .budget) (c .if1 .taken)
+    run-refused (given-at s) (s .sides-of .result) (s .sides-of .ensures) (a .lent) (columns-at s) (a .run) (a .budget) (c .if1 .taken)
 
 lent-in-requires : tie.Need-lent-in-requires
 lent-in-requires c κs = search needs
@@ -28,15 +58,9 @@ room-of-requires c κs = search needs
 is-impossible-requires : tie.Need-is-impossible-requires
 is-impossible-requires c κs =
     let q = c .before .before .before .before in
-    let l = q .before in
-    let o = l .before .before .before .before .before .before .before in
-    let s = o .before .before .before in
+    let s = before-room q in
     let a = s .before .before .before .before .before .before .before .args in
-    let e = q .room-of .ensures ∙ ap roomOf (l .lent-in .ensures) in
-    fits-room
-    (given (a .ls) (a .left .now) (a .rs) (a .right .now)) (s .sides-of .result) (s .sides-of .ensures) (a .lent)
-    (columns (a .places .now) (a .sets .now) (a .parents .now) (a .letters .now)) (o .if1 .left) (a .run) (q .room-of .result) e 0
-    (omega arith)
+    fits-room (given-at s) (s .sides-of .result) (s .sides-of .ensures) (a .lent) (columns-at s) (passed q) (a .run) (q .room-of .result) (room-is q) 0 (omega arith)
 
 both-requires : tie.Need-both-requires
 both-requires c κs = search needs
@@ -56,34 +80,18 @@ same-length-4 c = search needs
 returns-2 : tie.Need-returns-2
 returns-2 c =
     let i = c .before .before in
-    let q = i .before .before .before .before .before in
-    let l = q .before in
-    let o = l .before .before .before .before .before .before .before in
-    let s = o .before .before .before in
+    let s = before-asked i in
     let a = s .before .before .before .before .before .before .before .args in
-    let e = q .room-of .ensures ∙ ap roomOf (l .lent-in .ensures) in
-    run-impossible
-    (given (a .ls) (a .left .now) (a .rs) (a .right .now)) (s .sides-of .result) (s .sides-of .ensures) (a .lent)
-    (columns (a .places .now) (a .sets .now) (a .parents .now) (a .letters .now)) (a .run) (a .budget) (o .if1 .left) (c .both .result)
-    (c .both .ensures)
-    (impossible-is
-    (given (a .ls) (a .left .now) (a .rs) (a .right .now)) (s .sides-of .result) (s .sides-of .ensures) (a .lent)
-    (columns (a .places .now) (a .sets .now) (a .parents .now) (a .letters .now)) (o .if1 .left) (a .run) (q .room-of .result) e
-    (i .is-impossible .result) (i .is-impossible .ensures)
-    ∙ c .before .if2 .taken)
+    run-impossible (given-at s) (s .sides-of .result) (s .sides-of .ensures) (a .lent) (columns-at s) (a .run) (a .budget) (passed (i .before .before .before .before .before))
+    (c .both .result) (c .both .ensures) (asked i ∙ c .before .if2 .taken)
 
 run-sides-requires : tie.Need-run-sides-requires
 run-sides-requires c κs =
     let i = c .before .before .before .before .before in
     let q = i .before .before .before .before .before in
-    let l = q .before in
-    let o = l .before .before .before .before .before .before .before in
-    let s = o .before .before .before in
+    let s = before-asked i in
     let a = s .before .before .before .before .before .before .before .args in
-    let e = q .room-of .ensures ∙ ap roomOf (l .lent-in .ensures) in
-    runnable
-    (given (a .ls) (a .left .now) (a .rs) (a .right .now)) (s .sides-of .result) (s .sides-of .ensures) (a .lent)
-    (columns (a .places .now) (a .sets .now) (a .parents .now) (a .letters .now)) (o .if1 .left) (a .run) (q .room-of .result) e
+    runnable (given-at s) (s .sides-of .result) (s .sides-of .ensures) (a .lent) (columns-at s) (passed q) (a .run) (q .room-of .result) (room-is q)
     (sym (i .is-impossible .ensures) ∙ c .before .before .before .before .if2 .left)
 
 same-length-5 : tie.Need-same-length-5
@@ -103,26 +111,13 @@ returns-3 c =
     let w = c .before .before .before .before .before .before .before .before in
     let i = w .before .before .before .before .before .before in
     let q = i .before .before .before .before .before in
-    let l = q .before in
-    let o = l .before .before .before .before .before .before .before in
-    let s = o .before .before .before in
+    let s = before-asked i in
     let a = s .before .before .before .before .before .before .before .args in
-    let e = q .room-of .ensures ∙ ap roomOf (l .lent-in .ensures) in
-    run-done
-    (given (a .ls) (a .left .now) (a .rs) (a .right .now)) (s .sides-of .result) (s .sides-of .ensures) (a .lent)
-    (columns (a .places .now) (a .sets .now) (a .parents .now) (a .letters .now)) (a .run) (a .budget) (o .if1 .left)
-    (columns (w .run-sides .last .0) (w .run-sides .last .1 .0) (w .run-sides .last .1 .1 .0) (w .run-sides .last .1 .1 .1 .0))
-    (w .run-sides .result)
-    (impossible-is
-    (given (a .ls) (a .left .now) (a .rs) (a .right .now)) (s .sides-of .result) (s .sides-of .ensures) (a .lent)
-    (columns (a .places .now) (a .sets .now) (a .parents .now) (a .letters .now)) (o .if1 .left) (a .run) (q .room-of .result) e
-    (i .is-impossible .result) (i .is-impossible .ensures)
-    ∙ w .before .before .before .before .before .if2 .left)
-    (run-given
-    (given (a .ls) (a .left .now) (a .rs) (a .right .now)) (s .sides-of .result) (s .sides-of .ensures) (a .lent)
-    (columns (a .places .now) (a .sets .now) (a .parents .now) (a .letters .now)) (o .if1 .left) (a .run) (q .room-of .result) e (a .budget)
-    (columns (w .run-sides .last .0) (w .run-sides .last .1 .0) (w .run-sides .last .1 .1 .0) (w .run-sides .last .1 .1 .1 .0))
-    (w .run-sides .result) (w .run-sides .ensures))
+    let e = w .run-sides in
+    let left = columns (e .last .0) (e .last .1 .0) (e .last .1 .1 .0) (e .last .1 .1 .1 .0) in
+    run-done (given-at s) (s .sides-of .result) (s .sides-of .ensures) (a .lent) (columns-at s) (a .run) (a .budget) (passed q) left (e .result)
+    (asked i ∙ w .before .before .before .before .before .if2 .left)
+    (run-given (given-at s) (s .sides-of .result) (s .sides-of .ensures) (a .lent) (columns-at s) (passed q) (a .run) (q .room-of .result) (room-is q) (a .budget) left (e .result) (e .ensures))
 
 pub run-on-spec : {M : Type 1} → statement M
 run-on-spec =

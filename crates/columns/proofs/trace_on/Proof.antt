@@ -1,16 +1,66 @@
 -- `columns::trace_on`. Refused for a side, for 16, 17 or 18, or the way to the refuted row at the front of the buffer.
 use Prim.Native.Nat.{ℕ, _<_}
 use mathlib.Core.List.{[]}
-use mathlib.Core.Path.{sym, ap, subst, _∙_}
+use mathlib.Core.Path.{_≡_, sym, ap, subst, _∙_}
+use mathlib.Core.Bool.{false}
 use lib.ListN.{length}
 use native.Mathlib.Omega.{arith}
 use borrow.Author.Needs.{needs}
-use Rattle.goals.specs.Refusals.{given, roomOf}
-use Rattle.columns.specs.Calls.{columns}
-use Rattle.columns.proofs.Calling.{trace-refused, trace-impossible, trace-early, trace-short, trace-done, impossible-is, fits-room, traceable}
+use Rattle.goals.specs.Refusals.{Given, given, roomOf, impossibleFor}
+use Rattle.columns.specs.Calls.{Columns, columns, rowsIn, lentIn}
+use Rattle.columns.specs.Core.{climb}
+use Rattle.columns.proofs.Calling.{trace-refused, trace-impossible, trace-early, trace-short, trace-done, impossible-is, fits-room, Traceable, traceable}
 use Rattle.columns.proofs.Climbing.{climb-length}
 use Rattle.columns.proofs.trace_on.Statement.{statement}
 use Rattle.columns.proofs.trace_on.Tie as tie
+
+-- what was given and lent, at the place where the sides were prepared
+abbrev given-at : tie.After-sides-of → Given
+given-at s = let a = s .before .before .before .before .before .before .before .before .args in given (a .ls) (a .left .now) (a .rs) (a .right .now)
+
+abbrev columns-at : tie.After-sides-of → Columns
+columns-at s = let a = s .before .before .before .before .before .before .before .before .args in columns (a .places .now) (a .sets .now) (a .parents .now) (a .letters .now)
+
+-- that place, seen from where the room is known, and from where 16 was asked
+abbrev before-room : tie.After-room-of → tie.After-sides-of
+before-room q = q .before .before .before .before .before .before .before
+
+abbrev before-asked : tie.After-is-impossible → tie.After-sides-of
+before-asked i = before-room (i .before)
+
+-- the sides pass, and the room is that of the rows lent
+passed : (q : tie.After-room-of) → before-room q .sides-of .result .why .refusal .number ≡ 0
+passed q = q .before .before .before .before .if1 .left
+
+room-is : (q : tie.After-room-of) → let s = before-room q in q .room-of .result ≡ roomOf (lentIn (s .before .before .before .before .before .before .before .before .args .lent) (columns-at s))
+room-is q = q .room-of .ensures ∙ ap roomOf (q .before .lent-in .ensures)
+
+-- 16 as it was asked is 16 of what was given and lent
+asked : (i : tie.After-is-impossible) → let s = before-asked i in let r = s .before .before .before .before .before .before .before .before .args .run in
+    impossibleFor (given-at s) (lentIn (s .before .before .before .before .before .before .before .before .args .lent) (columns-at s)) (rowsIn (columns-at s) (r .used)) r ≡ i .is-impossible .result
+asked i =
+    let q = i .before in
+    let s = before-asked i in
+    let a = s .before .before .before .before .before .before .before .before .args in
+    impossible-is
+    (given-at s) (s .sides-of .result) (s .sides-of .ensures) (a .lent) (columns-at s) (passed q) (a .run) (q .room-of .result) (room-is q)
+    (i .is-impossible .result) (i .is-impossible .ensures)
+
+-- the refuted row's way is there
+found : (i : tie.After-is-impossible) → i .is-impossible .result ≡ false → before-asked i .before .before .before .before .before .before .before .before .args .run .outcome ≡ 2
+    → Traceable (columns-at (before-asked i)) (before-asked i .before .before .before .before .before .before .before .before .args .run)
+found i h o =
+    let q = i .before in
+    let s = before-asked i in
+    let a = s .before .before .before .before .before .before .before .before .args in
+    traceable (given-at s) (s .sides-of .result) (s .sides-of .ensures) (a .lent) (columns-at s) (passed q) (a .run) (q .room-of .result) (room-is q) (sym (i .is-impossible .ensures) ∙ h) o
+
+-- the length of the trace does not depend on its letters
+length-is : (n : tie.After-trace-length) → let a = before-asked (n .before .before .before .before .before .before) .before .before .before .before .before .before .before .before .args in
+    n .trace-length .result ≡ length (climb (a .parents .now) (a .letters .now) (a .run .settled) (a .run .settled))
+length-is n =
+    let a = before-asked (n .before .before .before .before .before .before) .before .before .before .before .before .before .before .before .args in
+    n .trace-length .ensures ∙ climb-length (a .parents .now) [] (a .letters .now) (a .run .settled) (a .run .settled)
 
 sides-of-requires : tie.Need-sides-of-requires
 sides-of-requires c κs = search needs
@@ -19,9 +69,7 @@ returns : tie.Need-returns
 returns c =
     let s = c .before .before .before in
     let a = s .before .before .before .before .before .before .before .before .args in
-    trace-refused
-    (given (a .ls) (a .left .now) (a .rs) (a .right .now)) (s .sides-of .result) (s .sides-of .ensures) (a .lent)
-    (columns (a .places .now) (a .sets .now) (a .parents .now) (a .letters .now)) (a .run) (a .out .now) (c .if1 .taken)
+    trace-refused (given-at s) (s .sides-of .result) (s .sides-of .ensures) (a .lent) (columns-at s) (a .run) (a .out .now) (c .if1 .taken)
 
 lent-in-requires : tie.Need-lent-in-requires
 lent-in-requires c κs = search needs
@@ -31,15 +79,9 @@ room-of-requires c κs = search needs
 
 is-impossible-requires : tie.Need-is-impossible-requires
 is-impossible-requires c κs =
-    let q = c in
-    let l = q .before in
-    let o = l .before .before .before in
-    let s = o .before .before .before in
+    let s = before-room c in
     let a = s .before .before .before .before .before .before .before .before .args in
-    fits-room
-    (given (a .ls) (a .left .now) (a .rs) (a .right .now)) (s .sides-of .result) (s .sides-of .ensures) (a .lent)
-    (columns (a .places .now) (a .sets .now) (a .parents .now) (a .letters .now)) (o .if1 .left) (a .run) (q .room-of .result)
-    (q .room-of .ensures ∙ ap roomOf (l .lent-in .ensures)) 0 (omega arith)
+    fits-room (given-at s) (s .sides-of .result) (s .sides-of .ensures) (a .lent) (columns-at s) (passed c) (a .run) (c .room-of .result) (room-is c) 0 (omega arith)
 
 both-requires : tie.Need-both-requires
 both-requires c κs = search needs
@@ -47,21 +89,10 @@ both-requires c κs = search needs
 returns-2 : tie.Need-returns-2
 returns-2 c =
     let i = c .before .before in
-    let q = i .before in
-    let l = q .before in
-    let o = l .before .before .before in
-    let s = o .before .before .before in
+    let s = before-asked i in
     let a = s .before .before .before .before .before .before .before .before .args in
-    let e = q .room-of .ensures ∙ ap roomOf (l .lent-in .ensures) in
-    trace-impossible
-    (given (a .ls) (a .left .now) (a .rs) (a .right .now)) (s .sides-of .result) (s .sides-of .ensures) (a .lent)
-    (columns (a .places .now) (a .sets .now) (a .parents .now) (a .letters .now)) (a .run) (a .out .now) (o .if1 .left) (c .both .result)
-    (c .both .ensures)
-    (impossible-is
-    (given (a .ls) (a .left .now) (a .rs) (a .right .now)) (s .sides-of .result) (s .sides-of .ensures) (a .lent)
-    (columns (a .places .now) (a .sets .now) (a .parents .now) (a .letters .now)) (o .if1 .left) (a .run) (q .room-of .result) e
-    (i .is-impossible .result) (i .is-impossible .ensures)
-    ∙ c .before .if2 .taken)
+    trace-impossible (given-at s) (s .sides-of .result) (s .sides-of .ensures) (a .lent) (columns-at s) (a .run) (a .out .now) (passed (i .before))
+    (c .both .result) (c .both .ensures) (asked i ∙ c .before .if2 .taken)
 
 both-requires-2 : tie.Need-both-requires-2
 both-requires-2 c κs = search needs
@@ -69,21 +100,10 @@ both-requires-2 c κs = search needs
 returns-3 : tie.Need-returns-3
 returns-3 c =
     let i = c .before .before .before .before in
-    let q = i .before in
-    let l = q .before in
-    let o = l .before .before .before in
-    let s = o .before .before .before in
+    let s = before-asked i in
     let a = s .before .before .before .before .before .before .before .before .args in
-    let e = q .room-of .ensures ∙ ap roomOf (l .lent-in .ensures) in
-    trace-early
-    (given (a .ls) (a .left .now) (a .rs) (a .right .now)) (s .sides-of .result) (s .sides-of .ensures) (a .lent)
-    (columns (a .places .now) (a .sets .now) (a .parents .now) (a .letters .now)) (a .run) (a .out .now) (o .if1 .left) (c .both2 .result)
-    (impossible-is
-    (given (a .ls) (a .left .now) (a .rs) (a .right .now)) (s .sides-of .result) (s .sides-of .ensures) (a .lent)
-    (columns (a .places .now) (a .sets .now) (a .parents .now) (a .letters .now)) (o .if1 .left) (a .run) (q .room-of .result) e
-    (i .is-impossible .result) (i .is-impossible .ensures)
-    ∙ c .before .before .before .if2 .left)
-    (c .both2 .ensures) (c .before .if3 .taken)
+    trace-early (given-at s) (s .sides-of .result) (s .sides-of .ensures) (a .lent) (columns-at s) (a .run) (a .out .now) (passed (i .before))
+    (c .both2 .result) (asked i ∙ c .before .before .before .if2 .left) (c .both2 .ensures) (c .before .if3 .taken)
 
 cast-used : tie.Need-cast-used
 cast-used c = search needs
@@ -93,14 +113,7 @@ cast-row c = search needs
 
 trace-length-requires : tie.Need-trace-length-requires
 trace-length-requires c κs =
-    let i = c .before .before .before .before .before in
-    let q = i .before in
-    let l = q .before in
-    let o = l .before .before .before in
-    let s = o .before .before .before in
-    let a = s .before .before .before .before .before .before .before .before .args in
-    let e = q .room-of .ensures ∙ ap roomOf (l .lent-in .ensures) in
-    let t = traceable (given (a .ls) (a .left .now) (a .rs) (a .right .now)) (s .sides-of .result) (s .sides-of .ensures) (a .lent) (columns (a .places .now) (a .sets .now) (a .parents .now) (a .letters .now)) (o .if1 .left) (a .run) (q .room-of .result) e (sym (i .is-impossible .ensures) ∙ c .before .before .before .before .if2 .left) (c .before .before .if3 .left) in
+    let t = found (c .before .before .before .before .before) (c .before .before .before .before .if2 .left) (c .before .before .if3 .left) in
     (t .row, t .few, t .parents, t .rooted)
 
 both-requires-3 : tie.Need-both-requires-3
@@ -110,41 +123,19 @@ returns-4 : tie.Need-returns-4
 returns-4 c =
     let n = c .before .before in
     let i = n .before .before .before .before .before .before in
-    let q = i .before in
-    let l = q .before in
-    let o = l .before .before .before in
-    let s = o .before .before .before in
+    let s = before-asked i in
     let a = s .before .before .before .before .before .before .before .before .args in
-    let e = q .room-of .ensures ∙ ap roomOf (l .lent-in .ensures) in
-    let t = traceable (given (a .ls) (a .left .now) (a .rs) (a .right .now)) (s .sides-of .result) (s .sides-of .ensures) (a .lent) (columns (a .places .now) (a .sets .now) (a .parents .now) (a .letters .now)) (o .if1 .left) (a .run) (q .room-of .result) e (sym (i .is-impossible .ensures) ∙ n .before .before .before .before .before .if2 .left) (n .before .before .before .if3 .left) in
-    trace-short
-    (given (a .ls) (a .left .now) (a .rs) (a .right .now)) (s .sides-of .result) (s .sides-of .ensures) (a .lent)
-    (columns (a .places .now) (a .sets .now) (a .parents .now) (a .letters .now)) (a .run) (a .out .now) (o .if1 .left) (c .both3 .result)
-    (impossible-is
-    (given (a .ls) (a .left .now) (a .rs) (a .right .now)) (s .sides-of .result) (s .sides-of .ensures) (a .lent)
-    (columns (a .places .now) (a .sets .now) (a .parents .now) (a .letters .now)) (o .if1 .left) (a .run) (q .room-of .result) e
-    (i .is-impossible .result) (i .is-impossible .ensures)
-    ∙ n .before .before .before .before .before .if2 .left)
-    (c .both3 .ensures) (n .before .before .before .if3 .left)
-    (subst
-    (λ (k : ℕ). length (a .out .now) < k)
-    (n .trace-length .ensures ∙ climb-length (a .parents .now) [] (a .letters .now) (a .run .settled) (a .run .settled) ∙ ap length (sym (t .word)))
-    (c .before .if4 .taken))
+    let refuted = n .before .before .before .if3 .left in
+    let t = found i (n .before .before .before .before .before .if2 .left) refuted in
+    trace-short (given-at s) (s .sides-of .result) (s .sides-of .ensures) (a .lent) (columns-at s) (a .run) (a .out .now) (passed (i .before))
+    (c .both3 .result) (asked i ∙ n .before .before .before .before .before .if2 .left) (c .both3 .ensures) refuted
+    (subst (λ (k : ℕ). length (a .out .now) < k) (length-is n ∙ ap length (sym (t .word))) (c .before .if4 .taken))
 
 put-trace-requires : tie.Need-put-trace-requires
 put-trace-requires c κs =
     let n = c .before .before in
-    let i = n .before .before .before .before .before .before in
-    let q = i .before in
-    let l = q .before in
-    let o = l .before .before .before in
-    let s = o .before .before .before in
-    let a = s .before .before .before .before .before .before .before .before .args in
-    let e = q .room-of .ensures ∙ ap roomOf (l .lent-in .ensures) in
-    let t = traceable (given (a .ls) (a .left .now) (a .rs) (a .right .now)) (s .sides-of .result) (s .sides-of .ensures) (a .lent) (columns (a .places .now) (a .sets .now) (a .parents .now) (a .letters .now)) (o .if1 .left) (a .run) (q .room-of .result) e (sym (i .is-impossible .ensures) ∙ n .before .before .before .before .before .if2 .left) (n .before .before .before .if3 .left) in (
-      (t .row, t .parents, t .letters, t .rooted),
-      (t .bytes, (n .trace-length .ensures ∙ climb-length (a .parents .now) [] (a .letters .now) (a .run .settled) (a .run .settled), search needs)),
-    )
+    let t = found (n .before .before .before .before .before .before) (n .before .before .before .before .before .if2 .left) (n .before .before .before .if3 .left) in
+    ((t .row, t .parents, t .letters, t .rooted), (t .bytes, (length-is n, search needs)))
 
 same-length : tie.Need-same-length
 same-length c = search needs
@@ -154,24 +145,12 @@ returns-5 c =
     let w = c .before .before in
     let n = w .before .before .before in
     let i = n .before .before .before .before .before .before in
-    let q = i .before in
-    let l = q .before in
-    let o = l .before .before .before in
-    let s = o .before .before .before in
+    let s = before-asked i in
     let a = s .before .before .before .before .before .before .before .before .args in
-    let e = q .room-of .ensures ∙ ap roomOf (l .lent-in .ensures) in
-    let t = traceable (given (a .ls) (a .left .now) (a .rs) (a .right .now)) (s .sides-of .result) (s .sides-of .ensures) (a .lent) (columns (a .places .now) (a .sets .now) (a .parents .now) (a .letters .now)) (o .if1 .left) (a .run) (q .room-of .result) e (sym (i .is-impossible .ensures) ∙ n .before .before .before .before .before .if2 .left) (n .before .before .before .if3 .left) in
-    trace-done
-    (given (a .ls) (a .left .now) (a .rs) (a .right .now)) (s .sides-of .result) (s .sides-of .ensures) (a .lent)
-    (columns (a .places .now) (a .sets .now) (a .parents .now) (a .letters .now)) (a .run) (a .out .now) (o .if1 .left)
-    (impossible-is
-    (given (a .ls) (a .left .now) (a .rs) (a .right .now)) (s .sides-of .result) (s .sides-of .ensures) (a .lent)
-    (columns (a .places .now) (a .sets .now) (a .parents .now) (a .letters .now)) (o .if1 .left) (a .run) (q .room-of .result) e
-    (i .is-impossible .result) (i .is-impossible .ensures)
-    ∙ n .before .before .before .before .before .if2 .left)
-    (n .before .before .before .if3 .left) t (n .trace-length .result) (w .put-trace .last .1 .1 .1 .1 .1 .0)
-    (n .trace-length .ensures ∙ climb-length (a .parents .now) [] (a .letters .now) (a .run .settled) (a .run .settled)) (search needs)
-    (w .put-trace .ensures)
+    let refuted = n .before .before .before .if3 .left in
+    trace-done (given-at s) (s .sides-of .result) (s .sides-of .ensures) (a .lent) (columns-at s) (a .run) (a .out .now) (passed (i .before))
+    (asked i ∙ n .before .before .before .before .before .if2 .left) refuted (found i (n .before .before .before .before .before .if2 .left) refuted)
+    (n .trace-length .result) (w .put-trace .last .1 .1 .1 .1 .1 .0) (length-is n) (search needs) (w .put-trace .ensures)
 
 pub trace-on-spec : {M : Type 1} → statement M
 trace-on-spec =
