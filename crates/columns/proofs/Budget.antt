@@ -1,17 +1,16 @@
 -- Steps one after another: a state is what its columns and record say, a step that leaves the run open leaves a row that is
 -- not settled, and rows are only added.
-use Prim.Native.Nat.{ℕ, zero, suc, _+_, _-_, _^_, _≤_, _<_}
+use Prim.Native.Nat.{ℕ, suc, _+_, _-_, _^_, _≤_, _<_}
 use mathlib.Core.Path.{_≡_, refl, sym, ap, ap₂, subst, _∙_}
-use mathlib.Core.Bool.{Bool, true, false, cond, _&&_, _||_}
-use mathlib.Core.List.{List, [], _∷_, _++_}
+use mathlib.Core.Bool.{Bool, true, false, cond, _||_}
+use mathlib.Core.List.{List}
 use mathlib.Core.Logic.{⊎-elim}
 use native.Mathlib.Nat.{eq-or-lt-of-le}
-use native.Mathlib.Numerals.{add-one}
 use native.Mathlib.Omega.{arith}
 use lib.Dec.{eqb}
 use lib.ListN.{length, getD, take}
 use lib.Seq.{take-length}
-use borrow.Author.Tests.{eq-eqb, ne-eqb, eqb-true, eqb-false}
+use borrow.Author.Tests.{eq-eqb, ne-eqb, eqb-false}
 use Rattle.places.specs.declared.Side.{Side}
 use Rattle.places.specs.declared.Naming.{Naming}
 use Rattle.places.specs.Matching.{namingOf, matchingBy}
@@ -21,7 +20,6 @@ use Rattle.columns.specs.declared.Letters.{Letters}
 use Rattle.goals.specs.Goals.{rowZero, bad, candidates, Entered, enterAll}
 use Rattle.goals.specs.Run.{State, state, settle, step, steps, run}
 use Rattle.columns.specs.Calls.{Columns, columns, rowsIn, put, stateOf}
-use Rattle.goals.specs.Refusals.{recordOf}
 use Rattle.columns.specs.Core.{Fits, entering, Ready, Steps, Runnable}
 use Rattle.columns.proofs.Laws.{length-rowsIn, put-put, rows-put, all-grows, fits-put, put-same}
 

@@ -1,8 +1,8 @@
 -- What each call leaves: refused for a side, refused for both, or done.
-use Prim.Native.Nat.{ℕ, suc, _^_, _≤_, _<_, min}
+use Prim.Native.Nat.{ℕ, suc, _≤_, _<_}
 use mathlib.Core.Path.{_≡_, refl, sym, ap, subst, _∙_}
-use mathlib.Core.Bool.{Bool, true, false, cond, not}
-use mathlib.Core.List.{List, [], _∷_, _++_, map}
+use mathlib.Core.Bool.{Bool, true, false, not}
+use mathlib.Core.List.{List, [], _∷_, map}
 use native.Mathlib.Nat.{le-trans, lt-of-lt-of-le}
 use native.Mathlib.Omega.{arith}
 use lib.Dec.{eqb, ltb}
@@ -16,7 +16,6 @@ use Rattle.effect.specs.WellFormed.{WellFormed}
 use Rattle.effect.proofs.Front.{front-next}
 use Rattle.places.specs.declared.Side.{Side}
 use Rattle.places.specs.Side.{sideOf}
-use Rattle.places.specs.Matching.{namingOf, matchingBy}
 use Rattle.places.proofs.Matched.{matched}
 use Rattle.goals.specs.declared.Row.{Row}
 use Rattle.goals.specs.declared.Run.{Run}
@@ -25,8 +24,8 @@ use Rattle.columns.specs.declared.Sides.{Sides}
 use Rattle.columns.specs.declared.Called.the-variants as called-variants
 use Rattle.columns.specs.declared.Tracing.the-variants as tracing-variants
 use Rattle.goals.specs.Run.{State, started, run, traceOf}
-use Rattle.goals.specs.Refusals.{Given, leftOf, rightOf, roomOf, recordOf, impossible, impossibleFor, Against, against, againstOf, first, refusalOf, startRefusal, runRefusal, traceRefusal, Reply, Leaves, exit, leaves, valuesOf, runAfter}
-use Rattle.columns.specs.Calls.{Columns, columns, rowsIn, put, lentIn, stateOf, called, tracing, Starts, Runs, Traces}
+use Rattle.goals.specs.Refusals.{Given, leftOf, rightOf, roomOf, recordOf, impossible, impossibleFor, Against, against, againstOf, first, startRefusal, runRefusal, traceRefusal, exit, leaves, valuesOf, runAfter}
+use Rattle.columns.specs.Calls.{Columns, columns, rowsIn, lentIn, stateOf, called, tracing, Starts, Runs, Traces}
 use Rattle.columns.specs.Core.{Fits, Prepares, Matchable, Runnable, Steps, Rooted, climb}
 use Rattle.columns.proofs.Possible.{Possible, possible}
 use Rattle.columns.proofs.Climbing.{climb-word}

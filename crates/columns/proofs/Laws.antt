@@ -1,20 +1,19 @@
 -- Rows in columns, and entering goals one after another: what the loops over members and letters lean on.
 use Prim.Native.Nat.{ℕ, zero, suc, _+_, _-_, _^_, _≤_, _<_}
 use mathlib.Core.Path.{_≡_, refl, sym, ap, ap₂, subst, _∙_}
-use mathlib.Core.Bool.{Bool, true, false, cond, _&&_, _||_, or-assoc, or-false, true≢false, false≢true}
+use mathlib.Core.Bool.{Bool, true, false, cond, _&&_, _||_, or-assoc, or-false}
 use mathlib.Core.List.{List, [], _∷_, _++_, map, append-assoc, append-nil}
-use mathlib.Core.Logic.{_⊎_, inl, inr, ⊎-elim}
+use mathlib.Core.Logic.{⊎-elim}
 use native.Mathlib.Nat.{eq-or-lt-of-le, lt-of-lt-of-le}
-use native.Mathlib.Numerals.{add-one}
 use native.Mathlib.Omega.{arith}
 use lib.Pow.{pow-mono}
-use lib.Bits.{bitAnd, bitOr}
+use lib.Bits.{bitAnd}
 use lib.Dec.{eqb}
-use lib.ListN.{length, getD, set, take, drop, length-append, length-map, length-drop, take-append-drop}
-use lib.Seq.{take-suc, drop-cons, set-append-seam, take-length, drop-drop, drop-append-add, length-take-le, getD-append-seam}
+use lib.ListN.{length, getD, set, take, drop, length-append, length-map}
+use lib.Seq.{take-suc, take-length, length-take-le}
 use Rattle.bits.specs.Bit.{bit, has}
 use Rattle.bits.proofs.Laws.{bit-zero}
-use borrow.Author.Tests.{eq-eqb, ne-eqb, eqb-true, eqb-false}
+use borrow.Author.Tests.{eq-eqb, ne-eqb, eqb-false}
 use Rattle.effect.specs.Refusals.{someBelow, front}
 use Rattle.effect.proofs.Front.{length-front, front-next, front-front, front-taken}
 use Rattle.goals.specs.declared.Row.{Row}
@@ -22,8 +21,6 @@ use Rattle.columns.specs.declared.Entering.{Entering}
 use Rattle.goals.specs.Goals.{row, known, Entered, enter, enterAll, eachMember, eachLetter}
 use Rattle.columns.specs.Calls.{Columns, columns, rowAt, rowsIn, put}
 use Rattle.columns.specs.declared.Letters.{Letters}
-use Rattle.places.specs.declared.Side.{Side}
-use Rattle.places.specs.Readings.{spreadTo}
 use Rattle.places.specs.Matching.{matchingBy}
 use Rattle.columns.specs.Core.{Fits, entering, Enters, lettered}
 

@@ -2,20 +2,19 @@
 use Prim.Native.Nat.{ℕ, suc}
 use mathlib.Core.Path.{_≡_, refl, sym, ap, _∙_}
 use mathlib.Core.Bool.{Bool, true, false, cond, not}
-use mathlib.Core.List.{List, [], _∷_, _++_}
+use mathlib.Core.List.{List, [], _∷_, _++_, map}
 use native.Mathlib.Omega.{arith}
 use lib.Dec.{eqb}
 use borrow.Author.Tests.{eq-eqb, ne-eqb, eqb-true, eqb-false}
 use Rattle.effect.specs.Refusals.{rule, sideRefusal}
-use Rattle.effect.specs.Node.{decodings}
+use Rattle.effect.specs.Node.{decodings, nodesOf}
 use Rattle.effect.specs.WellFormed.{WellFormed}
 use Rattle.effect.proofs.Accepted.{accepted-iff}
 use Rattle.places.specs.declared.Prepared.{Prepared}
-use Rattle.places.specs.declared.Side.{Side}
 use Rattle.places.specs.Side.{sideOf, noSide, prepareOf}
 use Rattle.goals.specs.declared.SideRefusal.{SideRefusal}
 use Rattle.columns.specs.declared.Sides.{Sides}
-use Rattle.goals.specs.Refusals.{Given, leftOf, rightOf, Against, against, againstOf, first, sideRules, refusalOf, Reply, Leaves, exit, leaves}
+use Rattle.goals.specs.Refusals.{Given, Against, against, againstOf, first, sideRules, refusalOf, exit, leaves}
 use Rattle.columns.specs.Core.{refusedBy, Prepares}
 
 -- ---- the first of the rows
@@ -96,9 +95,9 @@ sides-pass g h =
     same true e z = eqb-true _ _ e
     same false e z = absurd (omega (arith, z))
 
-prepared-side : (s : ℕ) (ns : List ℕ) (a : Prepared) → a ≡ prepareOf s ns → sideRefusal s (decodings ns) ≡ 0 → a .side ≡ sideOf s (Rattle.effect.specs.Node.nodesOf (decodings ns))
+prepared-side : (s : ℕ) (ns : List ℕ) (a : Prepared) → a ≡ prepareOf s ns → sideRefusal s (decodings ns) ≡ 0 → a .side ≡ sideOf s (nodesOf (decodings ns))
 unfolding prepareOf
-prepared-side s ns a e z = ap (λ (t : Prepared). t .side) e ∙ ap (λ (b : Bool). cond b (sideOf s (Rattle.effect.specs.Node.nodesOf (decodings ns))) noSide) (eq-eqb _ _ z)
+prepared-side s ns a e z = ap (λ (t : Prepared). t .side) e ∙ ap (λ (b : Bool). cond b (sideOf s (nodesOf (decodings ns))) noSide) (eq-eqb _ _ z)
 
 prepared-number : (s : ℕ) (ns : List ℕ) (a : Prepared) → a ≡ prepareOf s ns → a .refusal .number ≡ sideRefusal s (decodings ns)
 unfolding prepareOf
@@ -136,7 +135,7 @@ module _ (g : Given) (sd : Sides) (p : Prepares g sd) where
   sides-none : sd .why .refusal .number ≡ 0 → first (sideRules g) .number ≡ 0
   sides-none z = ap (λ (x : Against). x .number) (sym (p .why) ∙ refused-none (sd .why) z)
 
-  pub sides-passed : sd .why .refusal .number ≡ 0 → (rest : List ℕ) → refusalOf g rest ≡ first (mathlib.Core.List.map (against 3) rest)
+  pub sides-passed : sd .why .refusal .number ≡ 0 → (rest : List ℕ) → refusalOf g rest ≡ first (map (against 3) rest)
   sides-passed z rest = first-past (sideRules g) _ (sides-none z)
 
   pub both-formed : sd .why .refusal .number ≡ 0 → WellFormed (g .ls) (decodings (g .left)) × WellFormed (g .rs) (decodings (g .right)) × (g .ls ≡ g .rs)

@@ -1,7 +1,7 @@
 -- One step: the row's goals as the letters leave them are its candidates, and what is entered is settled.
 use Prim.Native.Nat.{ℕ, zero, suc, _+_, _^_, _≤_, _<_}
 use mathlib.Core.Path.{_≡_, refl, sym, ap, ap₂, subst, _∙_}
-use mathlib.Core.Bool.{Bool, true, false, cond, _&&_}
+use mathlib.Core.Bool.{Bool, true, false, cond}
 use mathlib.Core.List.{List, [], _∷_, _++_}
 use mathlib.Core.Logic.{⊎-elim}
 use native.Mathlib.Nat.{eq-or-lt-of-le, le-of-suc-le-suc}
@@ -11,17 +11,15 @@ use lib.Bits.{bitAnd}
 use lib.Dec.{eqb}
 use lib.ListN.{length, getD, List·getD-append}
 use lib.Seq.{getD-append-seam}
-use Rattle.bits.specs.Bit.{has}
 use Rattle.places.specs.declared.Side.{Side}
-use Rattle.places.specs.Readings.{matching, followers, post, spreadTo}
-use Rattle.places.specs.Matching.{matchingBy}
+use Rattle.places.specs.Readings.{followers, spreadTo}
 use Rattle.goals.specs.declared.Row.{Row}
 use Rattle.goals.specs.declared.Run.{Run}
 use Rattle.columns.specs.declared.Entering.{Entering}
 use Rattle.columns.specs.declared.Letters.{Letters}
 use Rattle.goals.specs.Goals.{row, rowZero, badGoal, eachMember, goalsOf, eachLetter, candidates, Entered, enterAll}
 use Rattle.goals.specs.Run.{State, state, settle, step}
-use Rattle.columns.specs.Calls.{Columns, rowAt, rowsIn, put, stateOf}
+use Rattle.columns.specs.Calls.{Columns, rowAt, rowsIn, stateOf}
 use Rattle.goals.specs.Refusals.{recordOf}
 use Rattle.columns.specs.Core.{Fits, entering, Enters, lettered, Ready, Steps}
 use Rattle.columns.proofs.Laws.{length-rowsIn, put-same, all-grows}

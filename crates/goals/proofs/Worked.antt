@@ -1,6 +1,5 @@
 -- The run's rules give what document 01 lists of C1 to C12 with C5r: they compute.
-use mathlib.Core.Path.{_≡_, refl}
-use lib.Dec.{eqb}
+use mathlib.Core.Path.{refl}
 use Rattle.bits.specs.Bit.{bit}
 use Rattle.effect.specs.Node.{kindOf, decodeOf, fieldsOf, numberOf}
 use Rattle.effect.specs.Refusals.{lowest, lowestNode, someBelow, someChild, claimed, namesBeyond, twins, nodeRefusal, oneIfInstant, instants, refusalAt, tableRefusal, sideRefusal}

@@ -2,8 +2,7 @@
 use effect::Refusal;
 use places::Side;
 ghost use mathlib.Core.Path.{_≡_};
-ghost use mathlib.Core.Bool.{Bool, _&&_, cond};
-ghost use lib.Dec.{eqb};
+ghost use mathlib.Core.Bool.{cond};
 ghost use lib.ListN.{getD};
 ghost use Rattle.bits.specs.Bit.{has};
 ghost use Rattle.places.specs.Readings.{spreadTo};
