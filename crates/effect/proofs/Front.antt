@@ -8,7 +8,7 @@ use lib.ListN.{length, getD, take, drop, set, length-append, length-drop, take-a
 use lib.Seq.{drop-cons, set-at, append-snoc, drop-drop, drop-append-add, length-take-le}
 use Rattle.effect.specs.Refusals.{front}
 
-pub length-front : (xs lent : List ℕ) → length xs ≤ length lent → length (front xs lent) ≡ length lent
+pub length-front : {A : Type 0} (xs lent : List A) → length xs ≤ length lent → length (front xs lent) ≡ length lent
 length-front xs lent h = length-append xs (drop (length xs) lent) ∙ omega (arith, length-drop (length xs) lent)
 
 pub front-next : (xs lent : List ℕ) (k x : ℕ) → length xs ≡ k → k < length lent → set (front xs lent) k x ≡ front (xs ++ (x ∷ [])) lent
@@ -19,11 +19,11 @@ front-next xs lent k x e h =
     ∙ ap (λ (n : ℕ). (xs ++ (x ∷ [])) ++ drop n lent) (let z : suc (length xs) ≡ length (xs ++ (x ∷ [])) = omega (arith, length-append xs (x ∷ [])) in z)
 
 -- a longer result over another
-pub front-front : (xs ys lent : List ℕ) → length xs ≤ length ys → front ys (front xs lent) ≡ front ys lent
-front-front xs ys lent h = ap (λ (l : List ℕ). ys ++ l)
+pub front-front : {A : Type 0} (xs ys lent : List A) → length xs ≤ length ys → front ys (front xs lent) ≡ front ys lent
+front-front {A} xs ys lent h = ap (λ (l : List A). ys ++ l)
     (subst (λ (n : ℕ). drop n (xs ++ drop (length xs) lent) ≡ drop n lent) (let z : length xs + (length ys - length xs) ≡ length ys = omega arith in z)
     (drop-append-add xs (drop (length xs) lent) (length ys - length xs) ∙ drop-drop (length ys - length xs) (length xs) lent))
 
 -- what stands there already
-pub front-taken : (n : ℕ) (lent : List ℕ) → n ≤ length lent → front (take n lent) lent ≡ lent
+pub front-taken : {A : Type 0} (n : ℕ) (lent : List A) → n ≤ length lent → front (take n lent) lent ≡ lent
 front-taken n lent h = ap (λ (k : ℕ). take n lent ++ drop k lent) (length-take-le n lent h) ∙ take-append-drop n lent

@@ -128,7 +128,7 @@ abbrev pub answered : ℕ → List ℕ → Answer
 answered number values = record { number = number; values = cond (eqb number 0) values [] }
 
 -- a result at the front of what was lent; what lies beyond it stays
-abbrev pub front : List ℕ → List ℕ → List ℕ
+abbrev pub front : {A : Type 0} → List A → List A → List A
 front result lent = result ++ drop (length result) lent
 
 -- the number and values of each case of what `check` answers: the number of instants, or a refusal

@@ -1,0 +1,240 @@
+-- The inspectors' demands, sentence by sentence, of any calls. Demand 1's "no call does anything undefined or fails to end" is what
+-- the check proves of each function; demand 2's sentence on sheets read and written again is `sheet`'s `SheetAgain` and `TableAgain`.
+use Prim.Native.Nat.{ℕ, _+_, _-_, _*_, _^_, _≤_, _<_, min}
+use mathlib.Core.Path.{_≡_}
+use mathlib.Core.Logic.{_⊎_, _↔_, _≢_}
+use mathlib.Core.Bool.{false}
+use mathlib.Core.List.{List, [], _∷_}
+use lib.ListN.{length, getD, take, drop}
+use Rattle.bits.specs.Bit.{Mem}
+use Rattle.effect.specs.declared.Node.{Node}
+use Rattle.effect.specs.Node.{decodings, nodesOf}
+use Rattle.effect.specs.Meaning.{root, Trace}
+use Rattle.effect.specs.Refusals.{instants, front}
+use Rattle.sheet.specs.declared.Reading.{Reading}
+use Rattle.sheet.specs.declared.Writing.{Writing}
+use Rattle.sheet.specs.Sheet.{reading, writing}
+use Rattle.places.specs.Readings.{matching, followers, Leads}
+use Rattle.goals.specs.declared.Row.{Row}
+use Rattle.goals.specs.declared.Run.{Run}
+use Rattle.goals.specs.Goals.{rowZero, bad}
+use Rattle.goals.specs.Run.{traceOf}
+use Rattle.goals.specs.Refusals.{Given, leftOf, rightOf, roomOf, against, Reply}
+use Rattle.demands.specs.Calls.{Lent, lent, usedIn, Calls, StartCall, RunCall, TraceCall, Accepted, Refused}
+use Rattle.demands.specs.Refused.{Decides, ofReader, ofWriter, ofStart, ofRun, ofTrace}
+
+-- ---- the words of the demands
+abbrev pub leftNodes : Given → List Node
+leftNodes g = nodesOf (decodings (g .left))
+
+abbrev pub rightNodes : Given → List Node
+rightNodes g = nodesOf (decodings (g .right))
+
+-- w is a trace of the left, and of the right
+abbrev pub LeftTrace : Given → List ℕ → Type 0
+LeftTrace g w = Trace (g .ls) (leftNodes g) (root (leftNodes g)) w
+
+abbrev pub RightTrace : Given → List ℕ → Type 0
+RightTrace g w = Trace (g .rs) (rightNodes g) (root (rightNodes g)) w
+
+-- row i of rows
+abbrev pub rowOf : List Row → ℕ → Row
+rowOf rows i = getD rows i rowZero
+
+-- the goal p, S (a left place and a set of right places) stands in one of the rows
+abbrev pub Has : List Row → ℕ → ℕ → Type 0
+Has rows p S = (i : ℕ) × (i < length rows) × (rowOf rows i .place ≡ p) × (rowOf rows i .set ≡ S)
+
+-- no two of the rows are one goal
+abbrev pub Differ : List Row → Type 0
+Differ rows =
+    (i j : ℕ) → i < length rows → j < length rows
+    → rowOf rows i .place ≡ rowOf rows j .place → rowOf rows i .set ≡ rowOf rows j .set → i ≡ j
+
+-- The goal p, S follows the row w under the letter x: p follows w's place and matches, and S is "all right places that follow a
+-- member of the set and match".
+pub record Follows (g : Given) (w : Row) (x p S : ℕ) : Type 0 where
+  pub letter : x < 2 ^ (g .ls)
+  pub follower : Mem (followers (leftOf g) (w .place)) p
+  pub matched : Mem (matching (leftOf g) x) p
+  pub places : (k : ℕ) → Mem S k ↔ ((j : ℕ) × Mem (w .set) j × Mem (followers (rightOf g) j) k × Mem (matching (rightOf g) x) k)
+
+-- every letter of the word is below 2^s
+abbrev pub Letters : ℕ → List ℕ → Type 0
+Letters s [] = Unit
+Letters s (x ∷ w) = (x < 2 ^ s) × Letters s w
+
+-- "A trace reaches a goal if the left place can be reached by it, instant after instant, and the set is all right places so
+-- reached."
+pub record Reaches (g : Given) (w : List ℕ) (p S : ℕ) : Type 0 where
+  pub letters : Letters (g .ls) w
+  pub left : Leads (leftOf g) 0 w p
+  pub right : (k : ℕ) → Mem S k ↔ Leads (rightOf g) 0 w k
+
+-- "1 + m × 2^k", with m instants on the left, k on the right
+abbrev pub most : Given → ℕ
+most g = 1 + instants (leftNodes g) (length (leftNodes g)) * 2 ^ instants (rightNodes g) (length (rightNodes g))
+
+-- a run that is not decided: open, or out of room
+abbrev pub Undecided : Run → Type 0
+Undecided r = (r .outcome ≡ 0) ⊎ (r .outcome ≡ 3)
+
+-- ---- the chain of calls: "a run begun by the start call and given the same two sides in every call, whose rows and record
+-- nothing else has written". Its state is the used rows and the record, and the sum of the budgets of its accepted calls; `least`
+-- is a lower bound on the rows lent to them.
+pub data Chain (calls : Calls) (g : Given) (least : ℕ) : List Row → Run → ℕ → Type 0 where
+  -- begun by an accepted start
+  begun : {l l′ : Lent} {reply : Reply} → calls .starts g l reply l′ → Accepted reply → Chain calls g least (usedIn l′) (l′ .held) 0
+  -- an accepted run call, given the same two sides and a table that begins with the used rows, whatever lies beyond
+  goes : {used rows : List Row} {held : Run} {sum budget : ℕ} {reply : Reply} {l′ : Lent}
+      → Chain calls g least used held sum → take (held .used) rows ≡ used → least ≤ length rows
+      → calls .runs g (lent rows held) budget reply l′ → Accepted reply
+      → Chain calls g least (usedIn l′) (l′ .held) (sum + budget)
+  -- a refused start or run call, any sides and any budget, on a table that begins with the used rows: the state is what it left
+  waits : {used rows : List Row} {held : Run} {sum budget : ℕ} {other : Given} {reply : Reply} {l′ : Lent}
+      → Chain calls g least used held sum → take (held .used) rows ≡ used
+      → calls .starts other (lent rows held) reply l′ ⊎ calls .runs other (lent rows held) budget reply l′ → Refused reply
+      → Chain calls g least (usedIn l′) (l′ .held) sum
+  -- the same on any other table: the record is what it left
+  strays : {used rows : List Row} {held : Run} {sum budget : ℕ} {other : Given} {reply : Reply} {l′ : Lent}
+      → Chain calls g least used held sum
+      → calls .starts other (lent rows held) reply l′ ⊎ calls .runs other (lent rows held) budget reply l′ → Refused reply
+      → Chain calls g least used (l′ .held) sum
+  -- any trace call, which only reads rows and record
+  shown : {used rows : List Row} {held : Run} {sum : ℕ} {other : Given} {out out′ : List ℕ} {reply : Reply}
+      → Chain calls g least used held sum → calls .traces other (lent rows held) out reply out′
+      → Chain calls g least used held sum
+
+-- ---- Demand 1. "Bad input is refused by the numbers of document 01, exactly when it says, and a refusal changes nothing that was
+-- lent."
+abbrev pub ReadRefuses : (List ℕ → List ℕ → Reading → List ℕ → Type 0) → Type 0
+ReadRefuses Reads =
+    (sheet nodes nodes′ : List ℕ) (r : Reading) → Reads sheet nodes r nodes′
+    → Decides (ofReader sheet (length nodes)) (against 0 (reading r .number)) × (reading r .number ≢ 0 → nodes′ ≡ nodes)
+
+abbrev pub WriteRefuses : (ℕ → List ℕ → List ℕ → Writing → List ℕ → Type 0) → Type 0
+WriteRefuses Writes =
+    (s : ℕ) (nodes out out′ : List ℕ) (r : Writing) → Writes s nodes out r out′
+    → Decides (ofWriter s nodes (length out)) (against 0 (writing r .number)) × (writing r .number ≢ 0 → out′ ≡ out)
+
+abbrev pub StartRefuses : StartCall → Type 0
+StartRefuses Starts =
+    (g : Given) (l l′ : Lent) (reply : Reply) → Starts g l reply l′
+    → Decides (ofStart g (length (l .rows))) (reply .refusal) × (Refused reply → l′ ≡ l)
+
+abbrev pub RunRefuses : RunCall → Type 0
+RunRefuses Runs =
+    (g : Given) (l l′ : Lent) (budget : ℕ) (reply : Reply) → Runs g l budget reply l′
+    → Decides (ofRun g (length (l .rows)) (usedIn l) (l .held)) (reply .refusal) × (Refused reply → l′ ≡ l)
+
+abbrev pub TraceRefuses : TraceCall → Type 0
+TraceRefuses Traces =
+    (g : Given) (l : Lent) (out out′ : List ℕ) (reply : Reply) → Traces g l out reply out′
+    → Decides (ofTrace g (length (l .rows)) (usedIn l) (l .held) (length out)) (reply .refusal) × (Refused reply → out′ ≡ out)
+
+-- ---- of the states of a chain, of one accepted run call on an undecided run
+abbrev pub EachState : Calls → (Given → List Row → Run → Type 0) → Type 0
+EachState calls P = (g : Given) (least sum : ℕ) (used : List Row) (held : Run) → Chain calls g least used held sum → P g used held
+
+abbrev pub EachRun : Calls → (Given → Lent → ℕ → Lent → Type 0) → Type 0
+EachRun calls P =
+    (g : Given) (l l′ : Lent) (budget : ℕ) (reply : Reply) → calls .runs g l budget reply l′ → Accepted reply
+    → Undecided (l .held) → P g l budget l′
+
+-- ---- Demand 2. "'included' comes only if every finite trace of the left is one of the right"
+abbrev pub IncludedRight : Calls → Type 0
+IncludedRight calls = EachState calls (λ g used held. held .outcome ≡ 1 → (w : List ℕ) → LeftTrace g w → RightTrace g w)
+
+-- "'refuted' only with a trace of the left that the right lacks": the letters from row 0 to the refuted row, and the trace call
+-- hands over those very letters
+abbrev pub RefutedRight : Calls → Type 0
+RefutedRight calls =
+    EachState calls (λ g used held. held .outcome ≡ 2
+    → let w = traceOf used (held .settled) in
+    LeftTrace g w
+    × (RightTrace g w → ⊥)
+    × ((rows : List Row) (out out′ : List ℕ) (reply : Reply) → take (held .used) rows ≡ used
+    → calls .traces g (lent rows held) out reply out′ → Accepted reply
+    → (reply .values ≡ length w ∷ []) × (out′ ≡ front w out)))
+
+-- ---- Demand 3. "each settled step closes one goal": at most so many steps as the budget has, all of them if the run stays open; a
+-- row that is settled is not bad, and each goal that follows it stands in a used row
+abbrev pub StepsClose : Calls → Type 0
+StepsClose calls =
+    EachRun calls (λ g l budget l′.
+    (l .held .settled ≤ l′ .held .settled)
+    × (l′ .held .settled ≤ l .held .settled + budget)
+    × (l′ .held .outcome ≡ 0 → l′ .held .settled ≡ l .held .settled + budget)
+    × ((i : ℕ) → l .held .settled ≤ i → i < l′ .held .settled
+    → (bad (leftOf g) (rightOf g) (rowOf (usedIn l′) i) ≡ false)
+    × ((x p S : ℕ) → Follows g (rowOf (usedIn l′) i) x p S → Has (usedIn l′) p S)))
+
+-- "no goal is entered twice": the used rows of a run are different goals, and a run call leaves the rows used before it, and those
+-- beyond the used ones, as they were
+abbrev pub GoalsDiffer : Calls → Type 0
+GoalsDiffer calls = EachState calls (λ g used held. Differ used)
+
+abbrev pub RowsStay : Calls → Type 0
+RowsStay calls =
+    EachRun calls (λ g l budget l′.
+    (take (l .held .used) (l′ .rows) ≡ usedIn l) × (drop (l′ .held .used) (l′ .rows) ≡ drop (l′ .held .used) (l .rows)))
+
+-- "With m instants on the left, k on the right and room in every call for 1 + m × 2^k rows, that number being at most 65,535, the
+-- run never lacks room and has its verdict once the budgets of its accepted calls add up to that many steps, however divided."
+abbrev pub RoomAndBudget : Calls → Type 0
+RoomAndBudget calls =
+    (g : Given) (sum : ℕ) (used : List Row) (held : Run) → most g ≤ 65535 → Chain calls g (most g) used held sum
+    → (held .outcome ≢ 3) × (most g ≤ sum → (held .outcome ≡ 1) ⊎ (held .outcome ≡ 2))
+
+-- "On 'included' the settled count is the number of goals that some trace reaches": as many as a list has that holds each of them,
+-- and no other, once
+abbrev pub CountsReached : Calls → Type 0
+CountsReached calls =
+    EachState calls (λ g used held. held .outcome ≡ 1
+    → (goals : List Row)
+    × (length goals ≡ held .settled)
+    × Differ goals
+    × ((p S : ℕ) → Has goals p S ↔ ((w : List ℕ) × Reaches g w p S)))
+
+-- "Any run stops for room exactly when its next new goal finds the run's room used up": the next row is not bad, the used rows fill
+-- the room, and a goal that follows it stands in none of them
+abbrev pub NoRoom : Calls → Type 0
+NoRoom calls =
+    EachRun calls (λ g l budget l′. 1 ≤ budget
+    → (l′ .held .outcome ≡ 3)
+    ↔ ((l′ .held .settled < l′ .held .used)
+    × (l′ .held .settled - l .held .settled < budget)
+    × (bad (leftOf g) (rightOf g) (rowOf (usedIn l′) (l′ .held .settled)) ≡ false)
+    × (l′ .held .used ≡ roomOf (length (l .rows)))
+    × ((x : ℕ) × (p : ℕ) × (S : ℕ) × Follows g (rowOf (usedIn l′) (l′ .held .settled)) x p S × (Has (usedIn l′) p S → ⊥))))
+
+-- ---- None of this is vacuous: a run goes on exactly where its rows fit the room,
+abbrev pub RunAccepted : Calls → Type 0
+RunAccepted calls =
+    EachState calls (λ g used held. (rows : List Row) (budget : ℕ) (reply : Reply) (l′ : Lent) → take (held .used) rows ≡ used
+    → calls .runs g (lent rows held) budget reply l′
+    → Accepted reply ↔ (held .used ≤ min (length rows) 65535))
+
+-- a refuted one hands over its trace exactly where the buffer is as long,
+abbrev pub TraceAccepted : Calls → Type 0
+TraceAccepted calls =
+    EachState calls (λ g used held. held .outcome ≡ 2 → (rows : List Row) (out out′ : List ℕ) (reply : Reply)
+    → take (held .used) rows ≡ used → calls .traces g (lent rows held) out reply out′
+    → Accepted reply ↔ ((held .used ≤ min (length rows) 65535) × (length (traceOf used (held .settled)) ≤ length out)))
+
+-- and a budget as large as the room ends a run: included, refuted or no room.
+abbrev pub BudgetEnds : Calls → Type 0
+BudgetEnds calls =
+    (g : Given) (l l′ : Lent) (budget : ℕ) (reply : Reply) → calls .runs g l budget reply l′ → Accepted reply
+    → roomOf (length (l .rows)) ≤ budget
+    → (l′ .held .outcome ≡ 1) ⊎ ((l′ .held .outcome ≡ 2) ⊎ (l′ .held .outcome ≡ 3))
+
+-- "however divided": with the same room, calls of budgets b and c leave the used rows and the record that one of b + c leaves
+abbrev pub Divided : Calls → Type 0
+Divided calls =
+    (g : Given) (l l₁ l₂ l′ : Lent) (rows : List Row) (b c : ℕ) (reply₁ reply₂ reply : Reply)
+    → calls .runs g l b reply₁ l₁ → Accepted reply₁
+    → take (l₁ .held .used) rows ≡ usedIn l₁ → roomOf (length rows) ≡ roomOf (length (l .rows))
+    → calls .runs g (lent rows (l₁ .held)) c reply₂ l₂ → Accepted reply₂
+    → calls .runs g l (b + c) reply l′
+    → (usedIn l₂ ≡ usedIn l′) × (l₂ .held ≡ l′ .held)

@@ -1,0 +1,5 @@
+pub mod Calls
+pub mod Refused
+pub mod Demands
+pub mod Worked
+pub mod BadVersions
