@@ -1,5 +1,5 @@
--- The calls as a caller makes them, on a lent table of rows and a lent record: what each is given, answers and leaves. These
--- are the promises of start, run and trace.
+-- The calls as a caller makes them, on a lent table of rows and a lent record: what each is given, answers and leaves. They follow
+-- from the promises of the calls on columns (`proofs/Core.antt`).
 use Prim.Native.Nat.{ℕ}
 use mathlib.Core.Path.{_≡_}
 use mathlib.Core.Logic.{_≢_}

@@ -1,6 +1,7 @@
--- The inspectors' demands, sentence by sentence, of any calls. Demand 1's "no call does anything undefined or fails to end" is what
--- the check proves of each function; demand 2's sentence on sheets read and written again is `sheet`'s `SheetAgain` and `TableAgain`.
-use Prim.Native.Nat.{ℕ, _+_, _-_, _*_, _^_, _≤_, _<_, min}
+-- The inspectors' demands, sentence by sentence, of any calls; `Meets` gathers those on runs. Demand 1's "no call does anything
+-- undefined or fails to end" is what the check proves of each function; demand 2's sentences on what is read and written again
+-- are `sheet`'s `SheetAgain` and `TableAgain`.
+use Prim.Native.Nat.{ℕ, _+_, _-_, _*_, _^_, _≤_, _<_}
 use mathlib.Core.Path.{_≡_}
 use mathlib.Core.Logic.{_⊎_, _↔_, _≢_}
 use mathlib.Core.Bool.{false}
@@ -14,6 +15,7 @@ use Rattle.effect.specs.Refusals.{instants, front}
 use Rattle.sheet.specs.declared.Reading.{Reading}
 use Rattle.sheet.specs.declared.Writing.{Writing}
 use Rattle.sheet.specs.Sheet.{reading, writing}
+use Rattle.sheet.specs.RoundTrip.{ReadCall, WriteCall}
 use Rattle.places.specs.Readings.{matching, followers, Leads}
 use Rattle.goals.specs.declared.Row.{Row}
 use Rattle.goals.specs.declared.Run.{Run}
@@ -21,7 +23,7 @@ use Rattle.goals.specs.Goals.{rowZero, bad}
 use Rattle.goals.specs.Run.{traceOf}
 use Rattle.goals.specs.Refusals.{Given, leftOf, rightOf, roomOf, against, Reply}
 use Rattle.demands.specs.Calls.{Lent, lent, usedIn, Calls, StartCall, RunCall, TraceCall, Accepted, Refused}
-use Rattle.demands.specs.Refused.{Decides, ofReader, ofWriter, ofStart, ofRun, ofTrace}
+use Rattle.demands.specs.Ordered.{Decides, ofReader, ofWriter, ofStart, ofRun, ofTrace}
 
 -- ---- the words of the demands
 abbrev pub leftNodes : Given → List Node
@@ -80,8 +82,8 @@ abbrev pub Undecided : Run → Type 0
 Undecided r = (r .outcome ≡ 0) ⊎ (r .outcome ≡ 3)
 
 -- ---- the chain of calls: "a run begun by the start call and given the same two sides in every call, whose rows and record
--- nothing else has written". Its state is the used rows and the record, and the sum of the budgets of its accepted calls; `least`
--- is a lower bound on the rows lent to them.
+-- nothing else has written". Its state is the used rows and the record, and the sum of the budgets of its accepted run calls;
+-- `least` is a lower bound on the rows lent to those.
 pub data Chain (calls : Calls) (g : Given) (least : ℕ) : List Row → Run → ℕ → Type 0 where
   -- begun by an accepted start
   begun : {l l′ : Lent} {reply : Reply} → calls .starts g l reply l′ → Accepted reply → Chain calls g least (usedIn l′) (l′ .held) 0
@@ -95,24 +97,30 @@ pub data Chain (calls : Calls) (g : Given) (least : ℕ) : List Row → Run → 
       → Chain calls g least used held sum → take (held .used) rows ≡ used
       → calls .starts other (lent rows held) reply l′ ⊎ calls .runs other (lent rows held) budget reply l′ → Refused reply
       → Chain calls g least (usedIn l′) (l′ .held) sum
-  -- the same on any other table: the record is what it left
+  -- the same on any table, the run's own lying elsewhere: the record is what it left
   strays : {used rows : List Row} {held : Run} {sum budget : ℕ} {other : Given} {reply : Reply} {l′ : Lent}
       → Chain calls g least used held sum
       → calls .starts other (lent rows held) reply l′ ⊎ calls .runs other (lent rows held) budget reply l′ → Refused reply
       → Chain calls g least used (l′ .held) sum
   -- any trace call, which only reads rows and record
-  shown : {used rows : List Row} {held : Run} {sum : ℕ} {other : Given} {out out′ : List ℕ} {reply : Reply}
+  traced : {used rows : List Row} {held : Run} {sum : ℕ} {other : Given} {out out′ : List ℕ} {reply : Reply}
       → Chain calls g least used held sum → calls .traces other (lent rows held) out reply out′
       → Chain calls g least used held sum
 
--- ---- Demand 1. "Bad input is refused by the numbers of document 01, exactly when it says, and a refusal changes nothing that was
--- lent."
-abbrev pub ReadRefuses : (List ℕ → List ℕ → Reading → List ℕ → Type 0) → Type 0
+-- ---- Demand 1. Every call answers. "Bad input is refused by the numbers of document 01, exactly when it says, and a refusal changes
+-- nothing that was lent."
+abbrev pub Answers : Calls → Type 0
+Answers calls =
+    ((g : Given) (l : Lent) → (reply : Reply) × (l′ : Lent) × calls .starts g l reply l′)
+    × ((g : Given) (l : Lent) (budget : ℕ) → (reply : Reply) × (l′ : Lent) × calls .runs g l budget reply l′)
+    × ((g : Given) (l : Lent) (out : List ℕ) → (reply : Reply) × (out′ : List ℕ) × calls .traces g l out reply out′)
+
+abbrev pub ReadRefuses : ReadCall → Type 0
 ReadRefuses Reads =
     (sheet nodes nodes′ : List ℕ) (r : Reading) → Reads sheet nodes r nodes′
     → Decides (ofReader sheet (length nodes)) (against 0 (reading r .number)) × (reading r .number ≢ 0 → nodes′ ≡ nodes)
 
-abbrev pub WriteRefuses : (ℕ → List ℕ → List ℕ → Writing → List ℕ → Type 0) → Type 0
+abbrev pub WriteRefuses : WriteCall → Type 0
 WriteRefuses Writes =
     (s : ℕ) (nodes out out′ : List ℕ) (r : Writing) → Writes s nodes out r out′
     → Decides (ofWriter s nodes (length out)) (against 0 (writing r .number)) × (writing r .number ≢ 0 → out′ ≡ out)
@@ -132,24 +140,23 @@ TraceRefuses Traces =
     (g : Given) (l : Lent) (out out′ : List ℕ) (reply : Reply) → Traces g l out reply out′
     → Decides (ofTrace g (length (l .rows)) (usedIn l) (l .held) (length out)) (reply .refusal) × (Refused reply → out′ ≡ out)
 
--- ---- of the states of a chain, of one accepted run call on an undecided run
-abbrev pub EachState : Calls → (Given → List Row → Run → Type 0) → Type 0
-EachState calls P = (g : Given) (least sum : ℕ) (used : List Row) (held : Run) → Chain calls g least used held sum → P g used held
+-- ---- of every state of a chain, and its sum of budgets; of every accepted run call, forged records and changed sides included
+abbrev pub EachState : Calls → (Given → List Row → Run → ℕ → Type 0) → Type 0
+EachState calls P = (g : Given) (least sum : ℕ) (used : List Row) (held : Run) → Chain calls g least used held sum → P g used held sum
 
 abbrev pub EachRun : Calls → (Given → Lent → ℕ → Lent → Type 0) → Type 0
 EachRun calls P =
-    (g : Given) (l l′ : Lent) (budget : ℕ) (reply : Reply) → calls .runs g l budget reply l′ → Accepted reply
-    → Undecided (l .held) → P g l budget l′
+    (g : Given) (l l′ : Lent) (budget : ℕ) (reply : Reply) → calls .runs g l budget reply l′ → Accepted reply → P g l budget l′
 
 -- ---- Demand 2. "'included' comes only if every finite trace of the left is one of the right"
-abbrev pub IncludedRight : Calls → Type 0
-IncludedRight calls = EachState calls (λ g used held. held .outcome ≡ 1 → (w : List ℕ) → LeftTrace g w → RightTrace g w)
+abbrev pub IncludedOnlyIf : Calls → Type 0
+IncludedOnlyIf calls = EachState calls (λ g used held sum. held .outcome ≡ 1 → (w : List ℕ) → LeftTrace g w → RightTrace g w)
 
 -- "'refuted' only with a trace of the left that the right lacks": the letters from row 0 to the refuted row, and the trace call
 -- hands over those very letters
-abbrev pub RefutedRight : Calls → Type 0
-RefutedRight calls =
-    EachState calls (λ g used held. held .outcome ≡ 2
+abbrev pub RefutedOnlyWith : Calls → Type 0
+RefutedOnlyWith calls =
+    EachState calls (λ g used held sum. held .outcome ≡ 2
     → let w = traceOf used (held .settled) in
     LeftTrace g w
     × (RightTrace g w → ⊥)
@@ -157,27 +164,43 @@ RefutedRight calls =
     → calls .traces g (lent rows held) out reply out′ → Accepted reply
     → (reply .values ≡ length w ∷ []) × (out′ ≡ front w out)))
 
--- ---- Demand 3. "each settled step closes one goal": at most so many steps as the budget has, all of them if the run stays open; a
--- row that is settled is not bad, and each goal that follows it stands in a used row
+-- ---- Demand 3. "each settled step closes one goal": a row is settled for each step, and there are no more steps than the budget has;
+-- all are taken if the run stays open, and finding a bad row is one of them. A row that is settled is not bad, and each goal that
+-- follows it stands in a used row.
 abbrev pub StepsClose : Calls → Type 0
 StepsClose calls =
-    EachRun calls (λ g l budget l′.
-    (l .held .settled ≤ l′ .held .settled)
+    EachRun calls (λ g l budget l′. Undecided (l .held)
+    → (l .held .settled ≤ l′ .held .settled)
     × (l′ .held .settled ≤ l .held .settled + budget)
     × (l′ .held .outcome ≡ 0 → l′ .held .settled ≡ l .held .settled + budget)
+    × (l′ .held .outcome ≡ 2 → l′ .held .settled < l .held .settled + budget)
     × ((i : ℕ) → l .held .settled ≤ i → i < l′ .held .settled
     → (bad (leftOf g) (rightOf g) (rowOf (usedIn l′) i) ≡ false)
     × ((x p S : ℕ) → Follows g (rowOf (usedIn l′) i) x p S → Has (usedIn l′) p S)))
 
--- "no goal is entered twice": the used rows of a run are different goals, and a run call leaves the rows used before it, and those
--- beyond the used ones, as they were
-abbrev pub GoalsDiffer : Calls → Type 0
-GoalsDiffer calls = EachState calls (λ g used held. Differ used)
+-- start settles nothing: what a run has settled its budgets paid for
+abbrev pub StepsPaid : Calls → Type 0
+StepsPaid calls = EachState calls (λ g used held sum. held .settled ≤ sum)
 
+-- "Outcome 1 or 2, or budget 0, changes nothing."
+abbrev pub Idles : Calls → Type 0
+Idles calls = EachRun calls (λ g l budget l′. (l .held .outcome ≡ 1) ⊎ ((l .held .outcome ≡ 2) ⊎ (budget ≡ 0)) → l′ ≡ l)
+
+-- "no goal is entered twice": the used rows of a run are different goals, each reached by the letters that lead to its row;
+abbrev pub GoalsDiffer : Calls → Type 0
+GoalsDiffer calls = EachState calls (λ g used held sum. Differ used)
+
+abbrev pub GoalsReached : Calls → Type 0
+GoalsReached calls =
+    EachState calls (λ g used held sum. (i : ℕ) → i < length used → Reaches g (traceOf used i) (rowOf used i .place) (rowOf used i .set))
+
+-- and a run call leaves the rows used before it in use, uses no more than the room, and leaves those beyond as they were
 abbrev pub RowsStay : Calls → Type 0
 RowsStay calls =
     EachRun calls (λ g l budget l′.
-    (take (l .held .used) (l′ .rows) ≡ usedIn l) × (drop (l′ .held .used) (l′ .rows) ≡ drop (l′ .held .used) (l .rows)))
+    (take (l .held .used) (usedIn l′) ≡ usedIn l)
+    × (l′ .held .used ≤ roomOf (length (l .rows)))
+    × (drop (l′ .held .used) (l′ .rows) ≡ drop (l′ .held .used) (l .rows)))
 
 -- "With m instants on the left, k on the right and room in every call for 1 + m × 2^k rows, that number being at most 65,535, the
 -- run never lacks room and has its verdict once the budgets of its accepted calls add up to that many steps, however divided."
@@ -186,21 +209,31 @@ RoomAndBudget calls =
     (g : Given) (sum : ℕ) (used : List Row) (held : Run) → most g ≤ 65535 → Chain calls g (most g) used held sum
     → (held .outcome ≢ 3) × (most g ≤ sum → (held .outcome ≡ 1) ⊎ (held .outcome ≡ 2))
 
+-- "however divided": with the same room, calls of budgets b and c leave the used rows and the record that one of b + c leaves
+abbrev pub Divided : Calls → Type 0
+Divided calls =
+    (g : Given) (l l₁ l₂ l′ : Lent) (rows : List Row) (b c : ℕ) (reply₁ reply₂ reply : Reply)
+    → calls .runs g l b reply₁ l₁ → Accepted reply₁
+    → take (l₁ .held .used) rows ≡ usedIn l₁ → roomOf (length rows) ≡ roomOf (length (l .rows))
+    → calls .runs g (lent rows (l₁ .held)) c reply₂ l₂
+    → calls .runs g l (b + c) reply l′
+    → Accepted reply₂ × Accepted reply × (usedIn l₂ ≡ usedIn l′) × (l₂ .held ≡ l′ .held)
+
 -- "On 'included' the settled count is the number of goals that some trace reaches": as many as a list has that holds each of them,
 -- and no other, once
 abbrev pub CountsReached : Calls → Type 0
 CountsReached calls =
-    EachState calls (λ g used held. held .outcome ≡ 1
+    EachState calls (λ g used held sum. held .outcome ≡ 1
     → (goals : List Row)
     × (length goals ≡ held .settled)
     × Differ goals
     × ((p S : ℕ) → Has goals p S ↔ ((w : List ℕ) × Reaches g w p S)))
 
--- "Any run stops for room exactly when its next new goal finds the run's room used up": the next row is not bad, the used rows fill
--- the room, and a goal that follows it stands in none of them
+-- "Any run stops for room exactly when its next new goal finds the run's room used up": a row and a step are left, the row is not bad,
+-- the used rows fill the room, and a goal that follows it stands in none of them
 abbrev pub NoRoom : Calls → Type 0
 NoRoom calls =
-    EachRun calls (λ g l budget l′. 1 ≤ budget
+    EachRun calls (λ g l budget l′. Undecided (l .held) → 1 ≤ budget
     → (l′ .held .outcome ≡ 3)
     ↔ ((l′ .held .settled < l′ .held .used)
     × (l′ .held .settled - l .held .settled < budget)
@@ -208,33 +241,49 @@ NoRoom calls =
     × (l′ .held .used ≡ roomOf (length (l .rows)))
     × ((x : ℕ) × (p : ℕ) × (S : ℕ) × Follows g (rowOf (usedIn l′) (l′ .held .settled)) x p S × (Has (usedIn l′) p S → ⊥))))
 
--- ---- None of this is vacuous: a run goes on exactly where its rows fit the room,
+-- ---- None of this is vacuous. On a table that agrees with its used rows as far as it goes, a run goes on exactly where they fit the
+-- room;
 abbrev pub RunAccepted : Calls → Type 0
 RunAccepted calls =
-    EachState calls (λ g used held. (rows : List Row) (budget : ℕ) (reply : Reply) (l′ : Lent) → take (held .used) rows ≡ used
-    → calls .runs g (lent rows held) budget reply l′
-    → Accepted reply ↔ (held .used ≤ min (length rows) 65535))
+    EachState calls (λ g used held sum. (rows : List Row) (budget : ℕ) (reply : Reply) (l′ : Lent)
+    → take (held .used) rows ≡ take (length rows) used → calls .runs g (lent rows held) budget reply l′
+    → Accepted reply ↔ (held .used ≤ roomOf (length rows)))
 
--- a refuted one hands over its trace exactly where the buffer is as long,
+-- a refuted one hands over its trace exactly where they do and the buffer is as long as the trace;
 abbrev pub TraceAccepted : Calls → Type 0
 TraceAccepted calls =
-    EachState calls (λ g used held. held .outcome ≡ 2 → (rows : List Row) (out out′ : List ℕ) (reply : Reply)
-    → take (held .used) rows ≡ used → calls .traces g (lent rows held) out reply out′
-    → Accepted reply ↔ ((held .used ≤ min (length rows) 65535) × (length (traceOf used (held .settled)) ≤ length out)))
+    EachState calls (λ g used held sum. held .outcome ≡ 2 → (rows : List Row) (out out′ : List ℕ) (reply : Reply)
+    → take (held .used) rows ≡ take (length rows) used → calls .traces g (lent rows held) out reply out′
+    → Accepted reply ↔ ((held .used ≤ roomOf (length rows)) × (length (traceOf used (held .settled)) ≤ length out)))
 
--- and a budget as large as the room ends a run: included, refuted or no room.
+-- and a budget as large as the room ends any run: included, refuted or no room.
 abbrev pub BudgetEnds : Calls → Type 0
 BudgetEnds calls =
-    (g : Given) (l l′ : Lent) (budget : ℕ) (reply : Reply) → calls .runs g l budget reply l′ → Accepted reply
-    → roomOf (length (l .rows)) ≤ budget
-    → (l′ .held .outcome ≡ 1) ⊎ ((l′ .held .outcome ≡ 2) ⊎ (l′ .held .outcome ≡ 3))
+    EachRun calls (λ g l budget l′. roomOf (length (l .rows)) ≤ budget
+    → (l′ .held .outcome ≡ 1) ⊎ ((l′ .held .outcome ≡ 2) ⊎ (l′ .held .outcome ≡ 3)))
 
--- "however divided": with the same room, calls of budgets b and c leave the used rows and the record that one of b + c leaves
-abbrev pub Divided : Calls → Type 0
-Divided calls =
-    (g : Given) (l l₁ l₂ l′ : Lent) (rows : List Row) (b c : ℕ) (reply₁ reply₂ reply : Reply)
-    → calls .runs g l b reply₁ l₁ → Accepted reply₁
-    → take (l₁ .held .used) rows ≡ usedIn l₁ → roomOf (length rows) ≡ roomOf (length (l .rows))
-    → calls .runs g (lent rows (l₁ .held)) c reply₂ l₂ → Accepted reply₂
-    → calls .runs g l (b + c) reply l′
-    → (usedIn l₂ ≡ usedIn l′) × (l₂ .held ≡ l′ .held)
+-- ---- all that is demanded of start, run and trace
+pub record Meets (calls : Calls) : Type 0 where
+  -- 1
+  pub answers : Answers calls
+  pub start-refuses : StartRefuses (calls .starts)
+  pub run-refuses : RunRefuses (calls .runs)
+  pub trace-refuses : TraceRefuses (calls .traces)
+  -- 2
+  pub included : IncludedOnlyIf calls
+  pub refuted : RefutedOnlyWith calls
+  -- 3
+  pub steps : StepsClose calls
+  pub paid : StepsPaid calls
+  pub idles : Idles calls
+  pub differ : GoalsDiffer calls
+  pub reached : GoalsReached calls
+  pub stay : RowsStay calls
+  pub bound : RoomAndBudget calls
+  pub divided : Divided calls
+  pub counts : CountsReached calls
+  pub room : NoRoom calls
+  -- not vacuous
+  pub runs-on : RunAccepted calls
+  pub hands-over : TraceAccepted calls
+  pub ends : BudgetEnds calls

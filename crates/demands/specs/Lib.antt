@@ -1,5 +1,5 @@
 pub mod Calls
-pub mod Refused
+pub mod Ordered
 pub mod Demands
 pub mod Worked
 pub mod BadVersions

@@ -2,7 +2,8 @@
 use mathlib.Core.Path.{_≡_}
 use mathlib.Core.Logic.{_⊎_}
 use Rattle.effect.specs.Meaning.{root, Trace, Included}
-use Rattle.goals.specs.Cases.{Case, Listed, Comparison, comparisons, ample, Gives, Each}
+use Rattle.goals.specs.Cases.{Case, Listed, Comparison, comparisons, ample, givenBy, Gives, Each}
+use Rattle.demands.specs.Demands.{leftNodes, rightNodes}
 
 -- what the meaning says of a case, from the outcome that is listed: included, or refuted by the very trace listed
 pub record Meant (c : Case) (listed : Listed) : Type 0 where
@@ -15,6 +16,8 @@ abbrev pub inAmple : Case → Case
 inAmple c = record { s = c .s; left = c .left; right = c .right; room = ample }
 
 pub record Holds (c : Comparison) : Type 0 where
+  -- the tables given are those of the nodes
+  pub tables : (leftNodes (givenBy (c .case)) ≡ c .case .left) × (rightNodes (givenBy (c .case)) ≡ c .case .right)
   -- the run's rules give the listed outcome, settled, used and trace
   pub gives : Gives c
   -- the meaning says the same

@@ -44,7 +44,7 @@ module _ (sheet lent : List ℕ) (bytes : Bytes sheet) (none : readRefusal sheet
       (left-done _ _ (sheetOf (signalsIn sheet) (nodesIn sheet)) out (write-none (signalsIn sheet) (nodesIn sheet) (length out) .1 (side, omega (arith, n, h)))
       ∙ ap₂ (λ (k : ℕ) (l : List ℕ). done (k ∷ []) (front l out)) n (sheet-of sheet (header .size) (header .filled) bytes))
 
-pub sheet-again : SheetAgain
+pub sheet-again : SheetAgain Reads Writes
 unfolding reading readOf
 sheet-again sheet lent lent′ out out′ s n r bytes rd fits wr =
     let d = done-left _ _ _ (nodesIn sheet) lent lent′ rd in
@@ -87,7 +87,7 @@ module _ (s : ℕ) (ns : List ℕ) (side : Fine s ns) where
       (left-done _ _ (nodesIn (sheetOf s ns)) lent (read-none (sheetOf s ns) (length lent) .1 (header-back (length lent) h, ap₂ (λ (x : ℕ) (l : List ℕ). tableRefusal x (decodings l)) signals nodes ∙ side .table))
       ∙ (let e : done (signalsIn (sheetOf s ns) ∷ countIn (sheetOf s ns) ∷ []) (front (nodesIn (sheetOf s ns)) lent) ≡ done (s ∷ length ns ∷ []) (front ns lent) = rw (signals, many, nodes) in e))
 
-pub table-again : TableAgain
+pub table-again : TableAgain Reads Writes
 unfolding writing writeOf
 table-again s ns out out′ lent lent′ k r wr fits rd =
     let d = done-left _ _ _ (sheetOf s ns) out out′ wr in

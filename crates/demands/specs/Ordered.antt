@@ -24,8 +24,8 @@ pub record Rule : Type 0 where
   pub number : ℕ
   pub applies : Bool
 
-abbrev pub rule : ℕ → ℕ → Bool → Rule
-rule side number applies = record { side = side; number = number; applies = applies }
+abbrev pub when : ℕ → ℕ → Bool → Rule
+when side number applies = record { side = side; number = number; applies = applies }
 
 -- The answer to rows in order: a refusal exactly when its row applies and none before it does; none when no row applies.
 abbrev pub Decides : List Rule → Against → Type 0
@@ -42,13 +42,13 @@ noNode (Is n) = false
 abbrev pub ofNode : ℕ → ℕ → List Decoded → ℕ → List Rule
 ofNode side s ds i =
     let t = nodesOf ds in
-    rule side 7 (noNode (entry ds i))
+    when side 7 (noNode (entry ds i))
     -- "an instant names a signal of number s or above"
-    ∷ rule side 8 (namesBeyond s (at t i))
+    ∷ when side 8 (namesBeyond s (at t i))
     -- "a child isn't below its own node"
-    ∷ rule side 9 (someChild (leb i) (at t i))
+    ∷ when side 9 (someChild (leb i) (at t i))
     -- "a child is already a lower node's child, or a = b in a sequence or choice"
-    ∷ rule side 10 (someChild (claimed t i) (at t i) || twins (at t i))
+    ∷ when side 10 (someChild (claimed t i) (at t i) || twins (at t i))
     ∷ []
 
 -- "among 7 to 10 the lowest node decides first": those of node 0, of node 1, .. of node n - 1
@@ -62,35 +62,35 @@ ofTable side s ds =
     let t = nodesOf ds in
     ofNodes side s ds (length ds)
     -- "a node other than the last is nobody's child"
-    ++ (rule side 11 (someBelow (length ds - 1) (λ c. not (claimed t (length ds) c)))
+    ++ (when side 11 (someBelow (length ds - 1) (λ c. not (claimed t (length ds) c)))
     -- "more than 63 instants"
-    ∷ rule side 12 (ltb 63 (instants t (length ds)))
+    ∷ when side 12 (ltb 63 (instants t (length ds)))
     ∷ [])
 
 -- "2, 3, 7 to 12" of a writer's or a comparer's side
 abbrev pub ofSide : ℕ → ℕ → List Decoded → List Rule
 ofSide side s ds =
-    rule side 2 (ltb 8 s)
+    when side 2 (ltb 8 s)
     -- "no node (a writer or comparer: or over 255)"
-    ∷ rule side 3 (eqb (length ds) 0 || ltb 255 (length ds))
+    ∷ when side 3 (eqb (length ds) 0 || ltb 255 (length ds))
     ∷ ofTable side s ds
 
 -- "The reader gives 1 to 12": the sheet, and how many entries the node table lent has
 abbrev pub ofReader : List ℕ → ℕ → List Rule
-ofReader sheet lent =
+ofReader sheet count =
     let n = countIn sheet in
     -- "sheet under 2 bytes"
-    rule 0 1 (ltb (length sheet) 2)
+    when 0 1 (ltb (length sheet) 2)
     -- "s above 8"
-    ∷ rule 0 2 (ltb 8 (signalsIn sheet))
+    ∷ when 0 2 (ltb 8 (signalsIn sheet))
     -- "no node"
-    ∷ rule 0 3 (eqb n 0)
+    ∷ when 0 3 (eqb n 0)
     -- "sheet length differs from the formula"
-    ∷ rule 0 4 (not (eqb (length sheet) (sheetLength n)))
+    ∷ when 0 4 (not (eqb (length sheet) (sheetLength n)))
     -- "a filling bit is set"
-    ∷ rule 0 5 (fillingSet sheet)
+    ∷ when 0 5 (fillingSet sheet)
     -- "node table lent to the reader is shorter than N"
-    ∷ rule 0 6 (ltb lent n)
+    ∷ when 0 6 (ltb count n)
     ∷ ofTable 0 (signalsIn sheet) (decodings (nodesIn sheet))
 
 -- "the writer 2, 3 and 7 to 13": s, the nodes, and how many bytes the output has
@@ -98,7 +98,7 @@ abbrev pub ofWriter : ℕ → List ℕ → ℕ → List Rule
 ofWriter s ns room =
     ofSide 0 s (decodings ns)
     -- "output too short for the sheet"
-    ++ (rule 0 13 (ltb room (sheetLength (length ns))) ∷ [])
+    ++ (when 0 13 (ltb room (sheetLength (length ns))) ∷ [])
 
 -- "2, 3, 7 to 12 for the left, then the same for the right, each naming the side, then the rest, naming both"
 abbrev pub ofCall : Given → List Rule → List Rule
@@ -106,24 +106,24 @@ ofCall g rest =
     ofSide 1 (g .ls) (decodings (g .left))
     ++ (ofSide 2 (g .rs) (decodings (g .right))
     -- "the two sides' s differ"
-    ++ (rule 3 14 (not (eqb (g .ls) (g .rs)))
+    ++ (when 3 14 (not (eqb (g .ls) (g .rs)))
     ∷ rest))
 
 -- start, of so many rows lent: 15, "start with a row table of no rows"
 abbrev pub ofStart : Given → ℕ → List Rule
-ofStart g lent = ofCall g (rule 3 15 (eqb lent 0) ∷ [])
+ofStart g count = ofCall g (when 3 15 (eqb count 0) ∷ [])
 
 -- run: 16, "run record or rows impossible"
 abbrev pub ofRun : Given → ℕ → List Row → Run → List Rule
-ofRun g lent used held = ofCall g (rule 3 16 (impossibleFor g lent used held) ∷ [])
+ofRun g count used held = ofCall g (when 3 16 (impossibleFor g count used held) ∷ [])
 
 -- trace, for a buffer of so many bytes
 abbrev pub ofTrace : Given → ℕ → List Row → Run → ℕ → List Rule
-ofTrace g lent used held buffer =
+ofTrace g count used held buffer =
     ofCall g
-    (rule 3 16 (impossibleFor g lent used held)
+    (when 3 16 (impossibleFor g count used held)
     -- "trace asked of a run not refuted"
-    ∷ rule 3 17 (not (eqb (held .outcome) 2))
+    ∷ when 3 17 (not (eqb (held .outcome) 2))
     -- "trace buffer shorter than the trace"
-    ∷ rule 3 18 (ltb buffer (length (traceOf used (held .settled))))
+    ∷ when 3 18 (ltb buffer (length (traceOf used (held .settled))))
     ∷ [])
