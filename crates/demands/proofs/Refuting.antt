@@ -1,0 +1,64 @@
+-- Demand 2, "refuted": the letters from row 0 to a row are a word that reaches its goal, by the rows' parents; so those to a bad row
+-- are a trace of the left and none of the right.
+use Prim.Native.Nat.{ℕ, zero, suc, _≤_, _<_}
+use mathlib.Core.Path.{_≡_, refl, sym, ap, subst, _∙_}
+use mathlib.Core.Bool.{Bool, true, false}
+use mathlib.Core.List.{List, [], _∷_, _++_}
+use native.Mathlib.Omega.{arith}
+use lib.Dec.{eqb}
+use lib.ListN.{length, take}
+use borrow.Author.Tests.{eqb-true, eqb-false}
+use Rattle.effect.specs.Refusals.{front}
+use Rattle.goals.specs.declared.Row.{Row}
+use Rattle.goals.specs.Run.{wordIn, traceOf}
+use Rattle.goals.specs.Refusals.{Given, leftOf, rightOf, traceRefusal, Reply}
+use Rattle.demands.specs.Calls.{lent, ours, Traces, Accepted}
+use Rattle.demands.specs.Demands.{rowOf, RefutedOnlyWith}
+use Rattle.demands.proofs.Accepting.{leaves-accepted}
+use Rattle.demands.proofs.Reaching.{left-signals, ReachesBy, reaches-start, reaches-step, bad-refutes}
+use Rattle.demands.proofs.Keeping.{Kept}
+use Rattle.demands.proofs.Standing.{chain-standing}
+
+module _ (g : Given) (rs : List Row) (k : Kept (leftOf g) (rightOf g) rs) where
+  abbrev Reached : List ℕ → ℕ → Type 0
+  Reached w i = ReachesBy g w (rowOf rs i .place) (rowOf rs i .set)
+
+  start-reached : (i : ℕ) → i ≡ 0 → Reached [] i
+  start-reached i e =
+      subst (λ (w : Row). ReachesBy g [] (w .place) (w .set)) (sym (ap (rowOf rs) e ∙ k .first)) (reaches-start g)
+
+  row-word : (f i : ℕ) → i ≤ f → i < length rs → Reached (wordIn rs f i) i
+  unfolding wordIn
+  row-word zero i h l = start-reached i (omega arith)
+  row-word (suc f) i h l = by (eqb i 0) refl (row-word f (rowOf rs i .parent))
+    where
+      by : (b : Bool) → eqb i 0 ≡ b → (rowOf rs i .parent ≤ f → rowOf rs i .parent < length rs → Reached (wordIn rs f (rowOf rs i .parent)) (rowOf rs i .parent))
+          → Reached (elim b [ true ↦ [] | false ↦ wordIn rs f (rowOf rs i .parent) ++ (rowOf rs i .letter ∷ []) ]) i
+      by true e rest = start-reached i (eqb-true _ _ e)
+      by false e rest =
+          let ne : i ≡ 0 → ⊥ = eqb-false i 0 e in
+          let q : 0 < i = omega arith in
+          let (low, b) = k .born i q l in
+          subst (λ (S : ℕ). ReachesBy g (wordIn rs f (rowOf rs i .parent) ++ (rowOf rs i .letter ∷ [])) (rowOf rs i .place) S) (sym (b .spreads))
+          (reaches-step g (wordIn rs f (rowOf rs i .parent)) (rowOf rs (rowOf rs i .parent) .place) (rowOf rs (rowOf rs i .parent) .set) (rowOf rs i .letter) (rowOf rs i .place)
+          (rest (omega arith) (omega arith)) (rw (left-signals g) at (b .below)) (b .follows) (b .matches))
+
+  pub row-reached : (i : ℕ) → i < length rs → Reached (traceOf rs i) i
+  row-reached i l = row-word i i (omega arith) l
+
+pub refuted-only-with : RefutedOnlyWith ours
+refuted-only-with g least sum used held c e =
+    let s = chain-standing g least sum used held c in
+    let r = bad-refutes g (s .both) (traceOf used (held .settled)) (rowOf used (held .settled) .place) (rowOf used (held .settled) .set)
+    (row-reached g used (s .kept) (held .settled) (s .undone (λ (q : held .outcome ≡ 1). omega (arith, q, e)))) (s .refuted e) in
+    (r .0, r .1, λ rows out out′ reply q h a. handed rows out out′ reply q h a)
+  where
+    handed : (rows : List Row) (out out′ : List ℕ) (reply : Reply) → take (held .used) rows ≡ used
+        → Traces g (lent rows held) out reply out′ → Accepted reply
+        → (reply .values ≡ length (traceOf used (held .settled)) ∷ []) × (out′ ≡ front (traceOf used (held .settled)) out)
+    handed rows out out′ reply q h a =
+        let word : List Row → List ℕ = λ (u : List Row). traceOf u (held .settled) in
+        let u = leaves-accepted reply (traceRefusal g (length rows) (take (held .used) rows) held (length out)) (length (word (take (held .used) rows)) ∷ []) (front (word (take (held .used) rows)) out) out out′ h a in (
+          u .2 ∙ ap (λ (v : List Row). length (word v) ∷ []) q,
+          u .1 ∙ ap (λ (v : List Row). front (word v) out) q,
+        )
