@@ -4,7 +4,7 @@ use Prim.Native.Nat.{ℕ, zero, suc, _+_, _-_, _≤_, _<_}
 use mathlib.Core.Path.{_≡_, refl, sym, ap, ap₂, subst, _∙_}
 use mathlib.Core.Bool.{Bool, true, false, cond, not, _||_, true≢false, false≢true, or-false, or-true, or-assoc}
 use mathlib.Core.Logic.{_⊎_, inl, inr, ⊎-elim, _↔_}
-use mathlib.Core.List.{List, [], _∷_, map}
+use mathlib.Core.List.{List, [], _∷_}
 use native.Mathlib.Nat.{eq-or-lt-of-le, le-of-suc-le-suc}
 use native.Mathlib.Decide.{ℕ-discrete}
 use native.Mathlib.Omega.{arith}
@@ -18,7 +18,7 @@ use Rattle.effect.specs.declared.Decoded.{Decoded}
 use Rattle.effect.specs.declared.Decoded.the-variants.{Is, None}
 use Rattle.effect.specs.Node.{decodeOf, kindOf, decodings, entry, nodeOf, nodesOf}
 use Rattle.effect.specs.Meaning.{at}
-use Rattle.effect.specs.Refusals.{rule, lowest, lowestNode, someBelow, someChild, claimed, namesBeyond, twins, nodeRefusal, oneIfInstant, instants, refusalAt, tableRefusal, sideRefusal, Answer, answered, checkOf}
+use Rattle.effect.specs.Refusals.{rule, lowest, lowestNode, someBelow, someChild, claimed, namesBeyond, twins, nodeRefusal, oneIfInstant, instants, refusalAt, tableRefusal, sideRefusal, answered, checkOf}
 
 -- ---- a table's entries, read one by one
 pub entry-decoded : (ns : List ℕ) (i : ℕ) → entry (decodings ns) i ≡ decodeOf (getD ns i 0)

@@ -1,26 +1,23 @@
 -- What the functions of this crate ask of the definitions: a table read number by number, one follow set after another,
 -- masks put at their places.
 use Prim.Native.Nat.{ℕ, zero, suc, _+_, _-_, _*_, _^_, _≤_, _<_}
-use mathlib.Core.Path.{_≡_, refl, sym, ap, ap₂, subst, _∙_}
-use mathlib.Core.Bool.{Bool, true, false, cond}
-use mathlib.Core.Logic.{_⊎_, inl, inr, ⊎-elim, _≢_}
+use mathlib.Core.Path.{_≡_, refl, sym, ap, ap₂, _∙_}
+use mathlib.Core.Logic.{⊎-elim}
 use mathlib.Core.List.{List, [], _∷_, _++_, append-nil, append-assoc}
 use native.Mathlib.Nat.{eq-or-lt-of-le, le-of-suc-le-suc}
 use native.Mathlib.Numerals.{add-one}
 use native.Mathlib.Omega.{arith}
 use lib.ListN.{length, getD, set, replicate, length-append, List·getD-eq-default}
 use lib.Seq.{getD-set-same, getD-set-other, set-append-seam}
-use lib.Bits.{bitOr}
 use borrow.Author.Tests.{lt-ltb}
 use Rattle.effect.specs.declared.Node.{Node}
 use Rattle.effect.specs.declared.Node.the-variants.{Nil, Empty, Instant, Seq, Choice, Repeat}
-use Rattle.effect.specs.declared.Decoded.{Decoded}
-use Rattle.effect.specs.declared.Decoded.the-variants.{Is, None}
+use Rattle.effect.specs.declared.Decoded.the-variants.{Is}
 use Rattle.effect.specs.declared.Numbered.the-variants.{Of}
 use Rattle.effect.specs.Node.{decodeOf, kindOf, nodeOf, decodings, numberOf, fieldsOf}
 use Rattle.effect.specs.Meaning.{at}
 use Rattle.effect.specs.Refusals.{oneIfInstant, instants}
-use Rattle.effect.proofs.Laws.{at-entry, entry-decoded, one-instant}
+use Rattle.effect.proofs.Laws.{at-entry, entry-decoded}
 use Rattle.effect.proofs.Inverse.{decode-number}
 use Rattle.places.specs.Places.{place, numberedNode}
 use Rattle.places.specs.Side.{byPlace, presentIn, absentIn, masksTo}

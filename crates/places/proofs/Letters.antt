@@ -1,18 +1,17 @@
 -- The places that match a letter, as they are worked out: by membership, what each signal takes away is what keeps an
 -- instant from matching.
-use Prim.Native.Nat.{ℕ, zero, suc, _+_, _-_, _*_, _^_, _≤_, _<_, min}
-use mathlib.Core.Path.{_≡_, refl, sym, ap, ap₂, subst, _∙_}
-use mathlib.Core.Bool.{Bool, true, false, cond}
-use mathlib.Core.Logic.{_⊎_, inl, inr, ⊎-elim, _↔_}
+use Prim.Native.Nat.{ℕ, suc, _+_, _-_, _^_, _≤_, _<_, min}
+use mathlib.Core.Path.{_≡_, sym, ap, ap₂, _∙_}
+use mathlib.Core.Bool.{Bool, false, cond}
 use mathlib.Core.List.{List}
 use native.Mathlib.Nat.{pow-suc}
 use native.Mathlib.Decide.{decLt}
 use native.Mathlib.Omega.{arith}
-use lib.Bits.{bitAnd, bitOr, bitXor}
+use lib.Bits.{bitOr}
 use lib.ListN.{length, getD, List·getD-eq-default}
-use lib.Pow.{pow-pos, pow-mono}
-use borrow.Author.Tests.{lt-ltb, le-ltb, ne-eqb}
-use Rattle.bits.specs.Bit.{bit, Mem, has, single}
+use lib.Pow.{pow-pos}
+use borrow.Author.Tests.{lt-ltb, ne-eqb}
+use Rattle.bits.specs.Bit.{bit, has, single}
 use Rattle.bits.proofs.Laws.{bit-zero}
 use Rattle.places.specs.Matching.{namingTo, placesTo}
 

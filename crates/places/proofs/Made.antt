@@ -1,5 +1,5 @@
 -- The side of an accepted table is what the survey and the walk make of it.
-use Prim.Native.Nat.{ℕ, zero, suc, _+_, _-_, _≤_, _<_}
+use Prim.Native.Nat.{ℕ, _-_, _≤_, _<_}
 use mathlib.Core.Path.{_≡_, refl, sym, ap, ap₂, subst, _∙_}
 use mathlib.Core.Bool.{Bool, cond}
 use mathlib.Core.Logic.{_≢_}
@@ -12,21 +12,21 @@ use lib.ListN.{length, getD, set, take, replicate, length-map, length-set, getD-
 use lib.Seq.{ext-getD, getD-take, getD-set-same, getD-set-other, length-take-le}
 use borrow.Author.Tests.{ne-eqb, eq-eqb}
 use Rattle.effect.specs.declared.Node.{Node}
-use Rattle.effect.specs.declared.Node.the-variants.{Nil, Instant}
+use Rattle.effect.specs.declared.Node.the-variants.{Nil}
 use Rattle.effect.specs.declared.Decoded.{Decoded}
 use Rattle.effect.specs.declared.Decoded.the-variants.{Is, None}
-use Rattle.effect.specs.Node.{decodeOf, decodings, entry, nodeOf, nodesOf}
+use Rattle.effect.specs.Node.{decodeOf, decodings, nodeOf}
 use Rattle.effect.specs.Meaning.{at, root}
 use Rattle.effect.specs.declared.Refusal.{Refusal}
 use Rattle.effect.specs.declared.Checked.the-variants.{Accepted, Refused}
-use Rattle.effect.specs.Refusals.{oneIfInstant, instants, sideRefusal, Answer, checked, checkOf}
+use Rattle.effect.specs.Refusals.{instants, sideRefusal, Answer, checked, checkOf}
 use Rattle.effect.specs.WellFormed.{WellFormed}
 use Rattle.effect.proofs.Laws.{entry-decoded}
 use Rattle.effect.proofs.Accepted.{accepted-iff}
 use Rattle.places.specs.declared.Side.{Side}
 use Rattle.places.specs.declared.Masks.{Masks}
 use Rattle.places.specs.declared.Walked.{Walked}
-use Rattle.places.specs.Places.{place, numberedNode, numbered, hasEmpty, firstOf, lastOf, followOf, after, accepting}
+use Rattle.places.specs.Places.{place, numbered, hasEmpty, firstOf, lastOf, followOf, after, accepting}
 use Rattle.places.specs.Side.{listOf, sideOf, noSide, prepareOf}
 use Rattle.places.specs.Walk.{tableOf, Walkable, Walks, Holds, Numbers, Surveyable}
 use Rattle.places.proofs.Rows.{numbered-length, numbered-at, numbered-below, numbered-instant}

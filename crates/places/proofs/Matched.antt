@@ -1,33 +1,29 @@
 -- What the signals leave of the places is what matches the letter: a place is taken away exactly when its instant names
 -- a signal against the letter. Signals at or above s are named by nobody in an accepted table.
-use Prim.Native.Nat.{ℕ, zero, suc, _+_, _-_, _^_, _≤_, _<_, min}
-use mathlib.Core.Path.{_≡_, refl, sym, ap, subst, _∙_}
-use mathlib.Core.Bool.{Bool, true, false, cond}
-use mathlib.Core.Logic.{_⊎_, inl, inr, ⊎-elim, _↔_}
+use Prim.Native.Nat.{ℕ, zero, suc, _-_, _^_, _≤_, _<_, min}
+use mathlib.Core.Path.{_≡_, refl, sym, subst}
+use mathlib.Core.Bool.{cond}
+use mathlib.Core.Logic.{inl, inr, ⊎-elim, _↔_}
 use mathlib.Core.List.{List, [], _∷_, _++_}
-use native.Mathlib.Decide.{decLt}
 use native.Mathlib.Nat.{eq-or-lt-of-le, le-of-suc-le-suc}
 use native.Mathlib.Omega.{arith}
 use lib.Dec.{T}
-use lib.ListN.{length, getD, replicate, List·getD-append, List·getD-eq-default, length-map}
-use lib.Seq.{getD-append-add}
+use lib.ListN.{length, getD, replicate}
 use lib.Pow.{pow-pos}
 use borrow.Author.Tests.{eq-eqb, ne-eqb}
 use Rattle.bits.specs.Bit.{bit, Mem, has}
-use Rattle.bits.proofs.Laws.{mem-dec, mem-lt, lt-mem, mem-without, mem-upto, mem-zero, set-ext, has-mem}
+use Rattle.bits.proofs.Laws.{mem-dec, mem-lt, lt-mem, mem-without, mem-upto, set-ext, has-mem}
 use Rattle.effect.specs.declared.Node.{Node}
 use Rattle.effect.specs.declared.Node.the-variants.{Nil, Empty, Instant, Seq, Choice, Repeat}
-use Rattle.effect.specs.declared.Decoded.{Decoded}
 use Rattle.effect.specs.Node.{nodesOf}
-use Rattle.effect.specs.Meaning.{at, Matches, matches}
-use Rattle.effect.specs.Refusals.{instants}
-use Rattle.effect.specs.WellFormed.{Named, WellFormed}
+use Rattle.effect.specs.Meaning.{at, Matches}
+use Rattle.effect.specs.WellFormed.{Named}
 use Rattle.effect.proofs.Matching.{matches-iff}
 use Rattle.places.specs.declared.Side.{Side}
 use Rattle.places.specs.declared.Naming.{Naming}
-use Rattle.places.specs.Side.{listOf, presentIn, absentIn, masksTo, byPlace, sideOf}
+use Rattle.places.specs.Side.{presentIn, absentIn, masksTo, byPlace, sideOf}
 use Rattle.places.specs.Readings.{matching}
-use Rattle.places.specs.Matching.{namingTo, bySignal, namingOf, placesTo, without, leftTo, matchingBy, Matched}
+use Rattle.places.specs.Matching.{namingTo, namingOf, placesTo, leftTo, matchingBy, Matched}
 use Rattle.places.proofs.ByPlace.{listOf-at, places-mem, matching-mem}
 
 -- ---- the masks of an accepted table are below 2 ^ s

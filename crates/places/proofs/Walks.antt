@@ -1,5 +1,5 @@
 -- The walk's answer at a node from its children's: each arm of the code is a row of the four tables.
-use Prim.Native.Nat.{ℕ, _^_, _<_, max}
+use Prim.Native.Nat.{ℕ, _^_, _<_}
 use mathlib.Core.Path.{_≡_, refl, sym, ap, ap₂, _∙_}
 use mathlib.Core.Bool.{Bool, true, false, cond, _&&_, _||_}
 use mathlib.Core.List.{List}
@@ -7,7 +7,7 @@ use native.Mathlib.Omega.{arith}
 use lib.Bits.{bitOr, or-zero-r}
 use lib.ListN.{getD}
 use borrow.Author.Tests.{lt-ltb}
-use Rattle.bits.specs.Bit.{bit, has, single}
+use Rattle.bits.specs.Bit.{has, single}
 use Rattle.bits.proofs.Laws.{bit-or, bit-ext}
 use Rattle.effect.specs.declared.Node.{Node}
 use Rattle.effect.specs.declared.Node.the-variants.{Nil, Empty, Instant, Seq, Choice, Repeat}

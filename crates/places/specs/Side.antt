@@ -1,14 +1,13 @@
 -- A side by value: what a comparison needs of an accepted table, by place. Entries of no place are 0.
-use Prim.Native.Nat.{ℕ, zero, suc, _-_, _^_}
+use Prim.Native.Nat.{ℕ, zero, suc, _-_}
 use mathlib.Core.Bool.{cond}
 use mathlib.Core.List.{List, [], _∷_, _++_}
-use lib.Bits.{bitOr}
 use lib.Dec.{eqb}
-use lib.ListN.{length, getD, replicate}
+use lib.ListN.{length, replicate}
 use Rattle.effect.specs.declared.Node.{Node}
 use Rattle.effect.specs.declared.Node.the-variants.{Nil, Empty, Instant, Seq, Choice, Repeat}
 use Rattle.effect.specs.Node.{decodings, nodesOf}
-use Rattle.effect.specs.Meaning.{at, matches}
+use Rattle.effect.specs.Meaning.{at}
 use Rattle.effect.specs.Refusals.{instants, sideRefusal}
 use Rattle.places.specs.declared.Side.{Side}
 use Rattle.places.specs.declared.Prepared.{Prepared}

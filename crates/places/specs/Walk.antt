@@ -1,7 +1,7 @@
 -- What the functions under `prepare` promise each other.
-use Prim.Native.Nat.{ℕ, _+_, _≤_, _<_}
+use Prim.Native.Nat.{ℕ, _≤_, _<_}
 use mathlib.Core.Path.{_≡_}
-use mathlib.Core.List.{List, _++_}
+use mathlib.Core.List.{List}
 use lib.Bits.{bitOr}
 use lib.ListN.{length, getD}
 use Rattle.effect.specs.declared.Node.{Node}
@@ -9,7 +9,7 @@ use Rattle.effect.specs.declared.Node.the-variants.{Instant}
 use Rattle.effect.specs.declared.Decoded.the-variants.{Is}
 use Rattle.effect.specs.Node.{decodeOf, decodings, nodesOf}
 use Rattle.effect.specs.Meaning.{at}
-use Rattle.effect.specs.Refusals.{oneIfInstant, instants}
+use Rattle.effect.specs.Refusals.{instants}
 use Rattle.effect.specs.WellFormed.{Child}
 use Rattle.places.specs.declared.Walked.{Walked}
 use Rattle.places.specs.declared.Masks.{Masks}
