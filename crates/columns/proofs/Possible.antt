@@ -10,7 +10,7 @@ use lib.Pow.{pow-pos}
 use borrow.Author.Tests.{ltb-true, ltb-false, leb-false, eqb-true, eqb-false, eq-eqb, ne-eqb, not-false}
 use Rattle.bits.specs.Bit.{has, within}
 use Rattle.effect.specs.Refusals.{someBelow}
-use Rattle.effect.proofs.Laws.{or-none, below-none, below-same, some-below}
+use Rattle.effect.proofs.Laws.{and-all, or-none, below-none, below-same, some-below}
 use Rattle.goals.specs.declared.Row.{Row}
 use Rattle.goals.specs.declared.Run.{Run}
 use Rattle.goals.specs.Goals.{rowZero}
@@ -113,10 +113,6 @@ pub record Possible (s room : ℕ) (c : Columns) (r : Run) : Type 0 where
   pub rooted : Rooted (c .parents) (r .used)
   pub bytes : (i : ℕ) → i < r .used → getD (c .letters) i 0 < 2 ^ s
 
-and-true : (a b : Bool) → (a && b) ≡ true → (a ≡ true) × (b ≡ true)
-and-true true b h = (refl, h)
-and-true false b h = absurd (true≢false (sym h))
-
 module _ (s m k room : ℕ) (c : Columns) (r : Run) (h : impossible s m k room (rowsIn c (r .used)) r ≡ false) where
   record-passed : recordImpossible room r ≡ false
   unfolding impossible
@@ -129,10 +125,10 @@ module _ (s m k room : ℕ) (c : Columns) (r : Run) (h : impossible s m k room (
   unfolding rowZeroImpossible
   zero-letter =
       let w = rowAt c 0 in
-      let a = and-true (eqb (w .place) 0) (eqb (w .set) 1 && (eqb (w .parent) 0 && eqb (w .letter) 0))
-      (not-false (eqb (w .place) 0 && (eqb (w .set) 1 && (eqb (w .parent) 0 && eqb (w .letter) 0))) (both-passed .0)) in
-      let b = and-true (eqb (w .set) 1) (eqb (w .parent) 0 && eqb (w .letter) 0) (a .1) in
-      eqb-true _ _ (and-true (eqb (w .parent) 0) (eqb (w .letter) 0) (b .1) .1)
+      let a = and-all (eqb (w .place) 0) (eqb (w .set) 1 && (eqb (w .parent) 0 && eqb (w .letter) 0))
+      .0 (not-false (eqb (w .place) 0 && (eqb (w .set) 1 && (eqb (w .parent) 0 && eqb (w .letter) 0))) (both-passed .0)) in
+      let b = and-all (eqb (w .set) 1) (eqb (w .parent) 0 && eqb (w .letter) 0) .0 (a .1) in
+      eqb-true _ _ (and-all (eqb (w .parent) 0) (eqb (w .letter) 0) .0 (b .1) .1)
 
   other-row : (i : ℕ) → 1 ≤ i → i < r .used → (getD (c .parents) i 0 < i) × (getD (c .letters) i 0 < 2 ^ s)
   unfolding rowImpossible

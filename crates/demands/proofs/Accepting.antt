@@ -58,27 +58,27 @@ sides-accepted g rest = (
       )),
 )
 
-pub start-accepted : (g : Given) (lent : ℕ) → (startRefusal g lent ≡ against 0 0) ↔ (Both g × (lent ≢ 0))
+pub start-passes : (g : Given) (lent : ℕ) → (startRefusal g lent ≡ against 0 0) ↔ (Both g × (lent ≢ 0))
 unfolding startRefusal
-start-accepted g lent =
+start-passes g lent =
     let sides = sides-accepted g (rule 15 (eqb lent 0) ∷ []) in (
       (λ h. let z = sides .0 h in (z .0, eqb-false lent 0 (rule-none 14 _ .0 (z .1 .0)))),
       (λ h. sides .1 (h .0, (rule-none 14 _ .1 (ne-eqb lent 0 (h .1)), tt))),
     )
 
-pub run-accepted : (g : Given) (lent : ℕ) (rows : List Row) (r : Run) → (runRefusal g lent rows r ≡ against 0 0) ↔ (Both g × (impossibleFor g lent rows r ≡ false))
+pub run-passes : (g : Given) (lent : ℕ) (rows : List Row) (r : Run) → (runRefusal g lent rows r ≡ against 0 0) ↔ (Both g × (impossibleFor g lent rows r ≡ false))
 unfolding runRefusal
-run-accepted g lent rows r =
+run-passes g lent rows r =
     let sides = sides-accepted g (rule 16 (impossibleFor g lent rows r) ∷ []) in (
       (λ h. let z = sides .0 h in (z .0, rule-none 15 _ .0 (z .1 .0))),
       (λ h. sides .1 (h .0, (rule-none 15 _ .1 (h .1), tt))),
     )
 
-pub trace-accepted : (g : Given) (lent : ℕ) (rows : List Row) (r : Run) (buffer : ℕ)
+pub trace-passes : (g : Given) (lent : ℕ) (rows : List Row) (r : Run) (buffer : ℕ)
     → (traceRefusal g lent rows r buffer ≡ against 0 0)
     ↔ (Both g × (impossibleFor g lent rows r ≡ false) × (r .outcome ≡ 2) × (length (traceOf rows (r .settled)) ≤ buffer))
 unfolding traceRefusal
-trace-accepted g lent rows r buffer =
+trace-passes g lent rows r buffer =
     let sides = sides-accepted g
     (rule 16 (impossibleFor g lent rows r) ∷ rule 17 (not (eqb (r .outcome) 2)) ∷ rule 18 (ltb buffer (length (traceOf rows (r .settled)))) ∷ []) in (
       (λ h.
@@ -106,13 +106,13 @@ module _ {Lent : Type 0} (reply : Reply) (why : Against) (values : List ℕ) (ch
   values-are : reply .values ≡ cond (eqb (why .number) 0) values []
   values-are = ap (λ (x : Leaves Lent). x .reply .values) e
 
-  pub leaves-accepted : Accepted reply → (why ≡ against 0 0) × (lent′ ≡ changed) × (reply .values ≡ values)
-  leaves-accepted h =
+  pub accepted-leaves : Accepted reply → (why ≡ against 0 0) × (lent′ ≡ changed) × (reply .values ≡ values)
+  accepted-leaves h =
       let none : why ≡ against 0 0 = sym refusal-is ∙ h in (
         none,
         lent-is ∙ ap (λ (x : Against). cond (eqb (x .number) 0) changed lent) none,
         values-are ∙ ap (λ (x : Against). cond (eqb (x .number) 0) values []) none,
       )
 
-  pub leaves-refused : Refused reply → lent′ ≡ lent
-  leaves-refused h = lent-is ∙ ap (λ (b : Bool). cond b changed lent) (ne-eqb (why .number) 0 (λ z. h (ap (λ (x : Against). x .number) refusal-is ∙ z)))
+  pub refused-leaves : Refused reply → lent′ ≡ lent
+  refused-leaves h = lent-is ∙ ap (λ (b : Bool). cond b changed lent) (ne-eqb (why .number) 0 (λ z. h (ap (λ (x : Against). x .number) refusal-is ∙ z)))

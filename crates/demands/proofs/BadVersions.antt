@@ -31,7 +31,7 @@ use Rattle.demands.specs.Calls.{Lent, lent, usedIn, holding}
 use Rattle.demands.specs.Ordered.{Rule, Decides, noNode, ofNodes, ofReader, ofWriter, ofStart, ofRun, ofTrace}
 use Rattle.demands.specs.Demands.{Has, Differ, Reaches, most, ReadRefuses, WriteRefuses, StartRefuses, RunRefuses, TraceRefuses, IncludedOnlyIf, RoomAndBudget, StepsClose, CountsReached}
 use Rattle.demands.specs.BadVersions.{refusesReading, refusesWriting, orBoth, refusesAll, includesAll, leavesRecord, settlesAtOnce, inventsCount}
-use Rattle.demands.proofs.Answers.{answer, answer-decides}
+use Rattle.demands.proofs.InOrder.{answer, answer-decides}
 use Rattle.demands.proofs.Deciding.{decides-one}
 use Rattle.demands.proofs.OneCall.{ready, accepted, one-call}
 

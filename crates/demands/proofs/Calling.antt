@@ -19,7 +19,7 @@ use Rattle.goals.specs.Refusals.{Given, leftOf, rightOf, roomOf, recordOf, impo
 use Rattle.demands.specs.Calls.{Lent, usedIn, holding, Runs, Accepted}
 use Rattle.demands.proofs.Both.{Both}
 use Rattle.demands.proofs.Possible.{Possible, possible-iff}
-use Rattle.demands.proofs.Accepting.{run-accepted, leaves-accepted}
+use Rattle.demands.proofs.Accepting.{run-passes, accepted-leaves}
 use Rattle.demands.proofs.Stepping.{Went, steps-went}
 
 -- the state that a call is lent, and the one that the rules give
@@ -40,8 +40,8 @@ used-holding st l = take-append-seam (st .rows) (drop (length (st .rows)) (l .ro
 module _ (g : Given) (l l′ : Lent) (budget : ℕ) (reply : Reply) (h : Runs g l budget reply l′) (a : Accepted reply) where
   accepted : (Both g × (impossibleFor g (length (l .rows)) (usedIn l) (l .held) ≡ false)) × (l′ ≡ holding (after g l budget) l)
   accepted =
-      let u = leaves-accepted reply _ [] (holding (after g l budget) l) l l′ h a in
-      (run-accepted g (length (l .rows)) (usedIn l) (l .held) .0 (u .0), u .1)
+      let u = accepted-leaves reply _ [] (holding (after g l budget) l) l l′ h a in
+      (run-passes g (length (l .rows)) (usedIn l) (l .held) .0 (u .0), u .1)
 
   pub ran-both : Both g
   ran-both = accepted .0 .0

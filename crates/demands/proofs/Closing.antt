@@ -1,29 +1,27 @@
 -- Demand 3, "each settled step closes one goal" and "no goal is entered twice": of any accepted run call, forged records among them,
 -- and of the states of a chain.
-use Prim.Native.Nat.{ℕ, suc, _+_, _≤_, _<_}
+use Prim.Native.Nat.{ℕ, suc, _^_, _≤_, _<_}
 use mathlib.Core.Path.{_≡_, sym, ap, subst, _∙_}
-use mathlib.Core.Bool.{false}
 use mathlib.Core.Logic.{_⊎_, inl, inr, ⊎-elim, _≢_}
 use mathlib.Core.List.{List}
 use native.Mathlib.Omega.{arith}
 use lib.ListN.{length, take, drop}
 use lib.Seq.{take-at, drop-append-seam}
-use Rattle.effect.proofs.Front.{front-taken}
+use Rattle.effect.proofs.Front.{length-front, front-taken}
 use Rattle.goals.specs.declared.Row.{Row}
 use Rattle.goals.specs.declared.Run.{Run}
-use Rattle.goals.specs.Goals.{bad}
 use Rattle.goals.specs.Run.{State}
 use Rattle.goals.specs.Refusals.{Given, leftOf, rightOf, roomOf, recordOf, Reply}
 use Rattle.demands.specs.Calls.{Lent, lent, usedIn, holding, ours, Runs, Accepted}
-use Rattle.demands.specs.Demands.{rowOf, Has, Follows, Undecided, begun, goes, waits, strays, traced, StepsClose, StepsPaid, Idles, GoalsDiffer, RowsStay}
+use Rattle.demands.specs.Demands.{rowOf, Has, Follows, Undecided, Settles, StepsClose, StartLeaves, Enters, RowsEntered, Idles, GoalsDiffer, Stays, RowsStay}
 use Rattle.demands.proofs.Rows.{Extends, extends-refl}
 use Rattle.demands.proofs.Both.{Both}
 use Rattle.demands.proofs.Reaching.{left-signals, left-match, follows-iff}
 use Rattle.demands.proofs.Stepping.{Closed, Went}
 use Rattle.demands.proofs.Calling.{before, after, after-cases, room-lent, used-holding, ran-both, ran-possible, ran-holding, ran-is, lent-used, lent-unsettled}
-use Rattle.demands.proofs.Standing.{chain-standing, start-held, refused-stays}
+use Rattle.demands.proofs.Standing.{chain-standing, start-holding}
 
-pub undecided-not : (r : Run) → Undecided r → (r .outcome ≢ 1) × (r .outcome ≢ 2)
+undecided-not : (r : Run) → Undecided r → (r .outcome ≢ 1) × (r .outcome ≢ 2)
 undecided-not r (inl e) = ((λ q. omega (arith, q, e)), (λ q. omega (arith, q, e)))
 undecided-not r (inr e) = ((λ q. omega (arith, q, e)), (λ q. omega (arith, q, e)))
 
@@ -36,50 +34,51 @@ closed-follows g both rows i x p S c f =
     let u = follows-iff g (rowOf rows i) x p S .0 f in
     subst (λ (T : ℕ). Has rows p T) (sym (u .3)) (c .followed x p (rw (left-signals g) (u .0)) (left-match g both x p (u .2) .2) (u .1) (u .2))
 
--- what is settled between two counts
-abbrev Settles : Given → Lent → ℕ → List Row → Run → Type 0
-Settles g l budget used held =
-    (l .held .settled ≤ held .settled)
-    × (held .settled ≤ l .held .settled + budget)
-    × (held .outcome ≡ 0 → held .settled ≡ l .held .settled + budget)
-    × (held .outcome ≡ 2 → held .settled < l .held .settled + budget)
-    × ((i : ℕ) → l .held .settled ≤ i → i < held .settled
-    → (bad (leftOf g) (rightOf g) (rowOf used i) ≡ false) × ((x p S : ℕ) → Follows g (rowOf used i) x p S → Has used p S))
-
 pub steps-close : StepsClose ours
 steps-close g l l′ budget reply h a u =
     ran-is g l l′ budget reply h a (Settles g l budget)
     (after-cases g l (λ (b : ℕ) (st : State). Settles g l b (st .rows) (recordOf st))
     (λ b d. absurd (not-decided (l .held) u d))
-    (omega arith, omega arith, (λ e. omega arith), (λ e. absurd (undecided-not (l .held) u .1 e)), (λ i p q. absurd (omega (arith, p, q))))
+    (omega arith, omega arith, (λ e. omega arith), (λ e. absurd (not-decided (l .held) u (inr e))), (λ i p q. absurd (omega (arith, p, q))))
     (λ b p q st w. goes b st (w (lent-unsettled g l l′ budget reply h a p)))
     budget)
   where
     goes : (b : ℕ) (st : State) → Went (leftOf g) (rightOf g) (roomOf (length (l .rows))) (suc b) (before l) st → Settles g l (suc b) (st .rows) (recordOf st)
     goes b st w =
-        (w .more, w .most, w .all, (λ e. w .refuted e .1), λ i p q. let c = w .closed i p q in (c .fine, λ x p S f. closed-follows g (ran-both g l l′ budget reply h a) (st .rows) i x p S c f))
+        (w .more, w .paid, w .all, (λ e. let r = w .refuted e in (r .1, r .0)), λ i p q. let c = w .closed i p q in (c .fine, λ x p S f. closed-follows g (ran-both g l l′ budget reply h a) (st .rows) i x p S c f))
 
 pub goals-differ : GoalsDiffer ours
 goals-differ g least sum used held c = chain-standing g least sum used held c .kept .once
 
--- ---- steps are paid for
-run-paid : (g : Given) (l l′ : Lent) (budget sum : ℕ) (reply : Reply) → Runs g l budget reply l′ → Accepted reply
-    → l .held .settled ≤ sum → l′ .held .settled ≤ sum + budget
-run-paid g l l′ budget sum reply h a p =
-    ran-is g l l′ budget reply h a (λ (used : List Row) (held : Run). held .settled ≤ sum + budget)
-    (after-cases g l (λ (b : ℕ) (st : State). st .settled ≤ sum + b) (λ b d. omega arith) (omega arith)
-    (λ b q r st w. omega (arith, w (lent-unsettled g l l′ budget reply h a q) .most))
-    budget)
+-- ---- the new rows
+module _ (g : Given) (l l′ : Lent) (budget : ℕ) (reply : Reply) (h : Runs g l budget reply l′) (a : Accepted reply) where
+  -- nothing is new where nothing is done
+  enters-none : Enters g l (usedIn l) (recordOf (before l))
+  enters-none i p q = absurd (omega (arith, p, q, lent-used g l l′ budget reply h a))
 
-pub steps-paid : StepsPaid ours
-steps-paid g least _ _ _ (begun {l} {l′} {reply} h a) = subst (λ (held : Run). held .settled ≤ 0) (sym (start-held g l l′ reply h a)) (omega arith)
-steps-paid g least _ _ _ (goes {used} {rows} {held} {sum} {budget} {reply} {l′} c e m h a) =
-    run-paid g (lent rows held) l′ budget sum reply h a (steps-paid g least sum used held c)
-steps-paid g least _ _ _ (waits {used} {rows} {held} {sum} {budget} {other} {reply} {l′} c e h f) =
-    subst (λ (l : Lent). l .held .settled ≤ sum) (sym (refused-stays other (lent rows held) l′ budget reply h f)) (steps-paid g least sum used held c)
-steps-paid g least _ _ _ (strays {used} {rows} {held} {sum} {budget} {other} {reply} {l′} c h f) =
-    subst (λ (l : Lent). l .held .settled ≤ sum) (sym (refused-stays other (lent rows held) l′ budget reply h f)) (steps-paid g least sum used held c)
-steps-paid g least _ _ _ (traced {used} {rows} {held} {sum} c h) = steps-paid g least sum used held c
+  enters-went : (n : ℕ) (st : State) → Went (leftOf g) (rightOf g) (roomOf (length (l .rows))) n (before l) st → Enters g l (st .rows) (recordOf st)
+  enters-went n st w i p q =
+      let old = lent-used g l l′ budget reply h a in
+      let (from, upto, full) = w .from-step i (omega (arith, p, old)) q in
+      let (low, goes) = w .born (length (usedIn l)) (λ j b c. absurd (omega (arith, b, c))) i (omega (arith, p, old)) q in (
+        from,
+        upto,
+        full,
+        follows-iff g _ _ _ _ .1 (subst (λ (s : ℕ). rowOf (st .rows) i .letter < 2 ^ s) (left-signals g) (goes .below), goes .follows, goes .matches, goes .spreads),
+      )
+
+  enters : Enters g l (usedIn l′) (l′ .held)
+  enters =
+      ran-is g l l′ budget reply h a (Enters g l)
+      (after-cases g l (λ (b : ℕ) (st : State). Enters g l (st .rows) (recordOf st)) (λ b d. enters-none) enters-none
+      (λ b p q st w. enters-went (suc b) st (w (lent-unsettled g l l′ budget reply h a p)))
+      budget)
+
+pub rows-entered : RowsEntered ours
+rows-entered g l l′ budget reply h a = enters g l l′ budget reply h a
+
+pub start-leaves : StartLeaves ours
+start-leaves g l l′ reply h a = start-holding g l l′ reply h a .1
 
 -- ---- what stays
 module _ (g : Given) (l l′ : Lent) (budget : ℕ) (reply : Reply) (h : Runs g l budget reply l′) (a : Accepted reply) where
@@ -103,11 +102,13 @@ module _ (g : Given) (l l′ : Lent) (budget : ℕ) (reply : Reply) (h : Runs g 
   older : take (l .held .used) rows ≡ usedIn l
   older = let (more, e) = extended in ap (take (l .held .used)) (sym e) ∙ take-at (usedIn l) more (l .held .used) (lent-used g l l′ budget reply h a)
 
-  stays : (take (l .held .used) (usedIn l′) ≡ usedIn l) × (l′ .held .used ≤ roomOf (length (l .rows))) × (drop (l′ .held .used) (l′ .rows) ≡ drop (l′ .held .used) (l .rows))
+  stays : Stays l l′
   stays =
-      subst (λ (m : Lent). (take (l .held .used) (usedIn m) ≡ usedIn l) × (m .held .used ≤ roomOf (length (l .rows))) × (drop (m .held .used) (m .rows) ≡ drop (m .held .used) (l .rows)))
-      (sym (ran-holding g l l′ budget reply h a))
-      (ap (take (l .held .used)) (used-holding (after g l budget) l) ∙ older, within, drop-append-seam rows rest)
+      subst (Stays l) (sym (ran-holding g l l′ budget reply h a))
+      (ap (take (l .held .used)) (used-holding (after g l budget) l) ∙ older, within, length-front rows (l .rows) short, drop-append-seam rows rest)
+    where
+      short : length rows ≤ length (l .rows)
+      short = omega (arith, within, room-lent (length (l .rows)) .0)
 
   -- the state that was lent is what was lent
   same-held : holding (before l) l ≡ l

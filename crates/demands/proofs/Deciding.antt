@@ -22,8 +22,8 @@ use Rattle.goals.specs.Refusals.{Given, Against, against, first, refusalOf, imp
 use Rattle.demands.specs.Calls.{usedIn, Starts, Runs, Traces, Refused}
 use Rattle.demands.specs.Ordered.{Rule, when, Decides, noNode, ofNode, ofNodes, ofTable, ofSide, ofCall, ofReader, ofWriter, ofStart, ofRun, ofTrace}
 use Rattle.demands.specs.Demands.{ReadRefuses, WriteRefuses, StartRefuses, RunRefuses, TraceRefuses}
-use Rattle.demands.proofs.Accepting.{leaves-refused}
-use Rattle.demands.proofs.Answers.{answer, Gives, gives-none, gives-end, gives-first, gives-number, gives-lowest, gives-last, gives-row, gives-against, gives-nothing, first-decides, number-decides}
+use Rattle.demands.proofs.Accepting.{refused-leaves}
+use Rattle.demands.proofs.InOrder.{answer, Says, gives-none, gives-end, gives-first, gives-number, gives-lowest, gives-last, gives-row, gives-against, gives-nothing, first-decides, number-decides}
 
 -- rows in order have one answer
 pub decides-one : (rules : List Rule) (a b : Against) → Decides rules a → Decides rules b → a ≡ b
@@ -39,45 +39,45 @@ abbrev named : ℕ → ℕ → ℕ → (ℕ → Bool) → Node → List Rule
 named side s i taken n = when side 8 (namesBeyond s n) ∷ when side 9 (someChild (leb i) n) ∷ when side 10 (someChild taken n || twins n) ∷ []
 
 -- 7 stands before them: where an entry is no node, they are not asked
-decoded-gives : (side s i : ℕ) (taken : ℕ → Bool) (d : Decoded) → Gives (when side 7 (noNode d) ∷ named side s i taken (nodeOf d)) (against side (nodeRefusal s i taken d))
+decoded-gives : (side s i : ℕ) (taken : ℕ → Bool) (d : Decoded) → Says (when side 7 (noNode d) ∷ named side s i taken (nodeOf d)) (against side (nodeRefusal s i taken d))
 unfolding nodeRefusal noNode answer
 decoded-gives side s i taken None = record { before = λ rest. refl }
 decoded-gives side s i taken (Is n) = record { before = λ rest. rows .before rest }
   where
-    rows : Gives (named side s i taken n) (against side (lowest (rule 8 (namesBeyond s n) ∷ rule 9 (someChild (leb i) n) ∷ rule 10 (someChild taken n || twins n) ∷ [])))
+    rows : Says (named side s i taken n) (against side (lowest (rule 8 (namesBeyond s n) ∷ rule 9 (someChild (leb i) n) ∷ rule 10 (someChild taken n || twins n) ∷ [])))
     rows = gives-row 7 _ _ (gives-row 8 _ _ (gives-row 9 _ _ gives-end))
 
-node-gives : (side s : ℕ) (ds : List Decoded) (i : ℕ) → Gives (ofNode side s ds i) (against side (refusalAt s ds i))
+node-gives : (side s : ℕ) (ds : List Decoded) (i : ℕ) → Says (ofNode side s ds i) (against side (refusalAt s ds i))
 unfolding refusalAt
 node-gives side s ds i = rw (at-entry ds i) (decoded-gives side s i (claimed (nodesOf ds) i) (entry ds i))
 
-nodes-give : (side s : ℕ) (ds : List Decoded) (n : ℕ) → Gives (ofNodes side s ds n) (against side (lowestNode (refusalAt s ds) n))
+nodes-give : (side s : ℕ) (ds : List Decoded) (n : ℕ) → Says (ofNodes side s ds n) (against side (lowestNode (refusalAt s ds) n))
 unfolding ofNodes lowestNode
 nodes-give side s ds zero = gives-none
 nodes-give side s ds (suc n) = gives-number (nodes-give side s ds n) (node-gives side s ds n)
 
-table-gives : (side s : ℕ) (ds : List Decoded) → Gives (ofTable side s ds) (against side (tableRefusal s ds))
+table-gives : (side s : ℕ) (ds : List Decoded) → Says (ofTable side s ds) (against side (tableRefusal s ds))
 unfolding tableRefusal
 table-gives side s ds = gives-lowest _ (nodes-give side s ds (length ds)) (gives-row 10 _ _ (gives-row 11 _ _ gives-end))
 
-side-gives : (side s : ℕ) (ds : List Decoded) → Gives (ofSide side s ds) (against side (sideRefusal s ds))
+side-gives : (side s : ℕ) (ds : List Decoded) → Says (ofSide side s ds) (against side (sideRefusal s ds))
 unfolding sideRefusal
 side-gives side s ds = gives-row 1 _ _ (gives-row 2 _ _ (gives-last (table-gives side s ds)))
 
 -- ---- reader and writer
-reader-gives : (sheet : List ℕ) (lent : ℕ) → Gives (ofReader sheet lent) (against 0 (readRefusal sheet lent))
+reader-gives : (sheet : List ℕ) (lent : ℕ) → Says (ofReader sheet lent) (against 0 (readRefusal sheet lent))
 unfolding readRefusal headerRefusal
 reader-gives sheet lent =
     gives-lowest _
     (gives-row 0 _ _ (gives-row 1 _ _ (gives-row 2 _ _ (gives-row 3 _ _ (gives-row 4 _ _ (gives-row 5 _ _ gives-end))))))
     (gives-last (table-gives 0 (signalsIn sheet) (decodings (nodesIn sheet))))
 
-writer-gives : (s : ℕ) (ns : List ℕ) (room : ℕ) → Gives (ofWriter s ns room) (against 0 (writeRefusal s ns room))
+writer-gives : (s : ℕ) (ns : List ℕ) (room : ℕ) → Says (ofWriter s ns room) (against 0 (writeRefusal s ns room))
 unfolding writeRefusal
 writer-gives s ns room = gives-lowest _ (side-gives 0 s (decodings ns)) (gives-row 12 _ _ gives-end)
 
 -- what a call of theirs answers and leaves
-left-refuses : (rules : List Rule) (told : Answer) (refusal : ℕ) (values result lent lent′ : List ℕ) → Gives rules (against 0 refusal)
+left-refuses : (rules : List Rule) (told : Answer) (refusal : ℕ) (values result lent lent′ : List ℕ) → Says rules (against 0 refusal)
     → exit told lent′ ≡ left refusal values result lent → Decides rules (against 0 (told .number)) × (told .number ≢ 0 → lent′ ≡ lent)
 left-refuses rules told refusal values result lent lent′ p e =
     let number : told .number ≡ refusal = ap (λ (x : Left). x .answer .number) e in (
@@ -94,7 +94,7 @@ unfolding writeOf
 write-refuses s nodes out out′ r e = left-refuses (ofWriter s nodes (length out)) (writing r) _ _ (sheetOf s nodes) out out′ (writer-gives s nodes (length out)) e
 
 -- ---- comparisons
-call-decides : (g : Given) {rules : List Rule} (rest : List ℕ) → Gives rules (first (map (against 3) rest)) → Decides (ofCall g rules) (refusalOf g rest)
+call-decides : (g : Given) {rules : List Rule} (rest : List ℕ) → Says rules (first (map (against 3) rest)) → Decides (ofCall g rules) (refusalOf g rest)
 call-decides g rest p =
     first-decides _
     (gives-first _ (side-gives 1 (g .ls) (decodings (g .left)))
@@ -124,7 +124,7 @@ leaves-refuses : {Lent : Type 0} (rules : List Rule) (reply : Reply) (why : Agai
     → exits reply lent′ ≡ leaves why values changed lent → Decides rules (reply .refusal) × (Refused reply → lent′ ≡ lent)
 leaves-refuses {Lent} rules reply why values changed lent lent′ d e = (
   subst (Decides rules) (sym (ap (λ (x : Leaves Lent). x .reply .refusal) e)) d,
-  leaves-refused reply why values changed lent lent′ e,
+  refused-leaves reply why values changed lent lent′ e,
 )
 
 pub start-refuses : StartRefuses Starts

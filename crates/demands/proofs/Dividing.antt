@@ -23,7 +23,7 @@ use Rattle.demands.specs.Demands.{rowOf, Divided}
 use Rattle.demands.proofs.Entering.{full-again}
 use Rattle.demands.proofs.Stepping.{Stuck, Went, steps-went}
 use Rattle.demands.proofs.Calling.{before, after, ran-both, ran-possible, ran-used, ran-held, lent-unsettled}
-use Rattle.demands.proofs.Room.{four}
+use Rattle.demands.proofs.Room.{Four, four}
 use Rattle.demands.proofs.Going.{PossibleFor, run-goes-on, ran-possible-after}
 
 module _ (left right : Side) (room : ℕ) where
@@ -105,7 +105,7 @@ module _ (left right : Side) (room : ℕ) where
           ap (λ (n : ℕ). steps left right room n st) (let e : suc b + c ≡ suc (b + c) = omega arith in e)
           ∙ steps-ended b c st (λ e. z (ap (λ (x : State). x .outcome) (sym is) ∙ e)) ∙ is
 
-      by : (st′ .outcome ≡ 0) ⊎ ((st′ .outcome ≡ 1) ⊎ ((st′ .outcome ≡ 2) ⊎ (st′ .outcome ≡ 3))) → steps left right room (suc b + c) st ≡ run left right room c st′
+      by : Four (st′ .outcome) → steps left right room (suc b + c) st ≡ run left right room c st′
       by (inl e) =
           steps-open (suc b) c st (ap (λ (x : State). x .outcome) is ∙ e) ∙ ap (steps left right room c) is
           ∙ sym (run-undecided c st′ (λ z. omega (arith, z, e)) (λ z. omega (arith, z, e)))

@@ -103,7 +103,7 @@ pub entered-lacks : (room : ℕ) (cs : List Row) (rows : List Row) → enterAll 
 entered-lacks room cs rows f = ⊎-elim (λ g. absurd (true≢false (sym g))) (λ h. h) (full-lacks room cs (entered rows false) f)
 
 -- rows that fill the room stay, and a goal that they lack finds no room again
-pub full-stays : (room : ℕ) (cs rows : List Row) → length rows ≡ room → enterAll room cs (entered rows false) .rows ≡ rows
+full-stays : (room : ℕ) (cs rows : List Row) → length rows ≡ room → enterAll room cs (entered rows false) .rows ≡ rows
 full-stays room cs rows h =
     entered-keeps room (λ (rs : List Row). rs ≡ rows) cs (entered rows false) (λ rs c e a k l. absurd (l (ap (λ (r : List Row). length r) e ∙ h))) refl
 

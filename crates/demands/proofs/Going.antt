@@ -19,7 +19,7 @@ use Rattle.demands.specs.Demands.{rowOf, RunAccepted, TraceAccepted}
 use Rattle.demands.proofs.Both.{Both}
 use Rattle.demands.proofs.Bound.{Late}
 use Rattle.demands.proofs.Possible.{Possible, possible-iff}
-use Rattle.demands.proofs.Accepting.{run-accepted, trace-accepted, leaves-accepted}
+use Rattle.demands.proofs.Accepting.{run-passes, trace-passes, accepted-leaves}
 use Rattle.demands.proofs.Rows.{extends-longer, extends-row}
 use Rattle.demands.proofs.Reaching.{left-signals}
 use Rattle.demands.proofs.Keeping.{Born}
@@ -132,7 +132,7 @@ pub run-goes-on : (g : Given) (rows : List Row) (held : Run) (budget : ℕ) (rep
     → PossibleFor g (roomOf (length rows)) (take (held .used) rows) held → Runs g (lent rows held) budget reply l′ → Accepted reply
 run-goes-on g rows held budget reply l′ both p h =
     ap (λ (x : Leaves Lent). x .reply .refusal) h
-    ∙ run-accepted g (length rows) (take (held .used) rows) held .1
+    ∙ run-passes g (length rows) (take (held .used) rows) held .1
     (both, possible-iff (g .ls) (leftOf g .count) (rightOf g .count) (roomOf (length rows)) (take (held .used) rows) held .1 p)
 
 module _ (g : Given) (used rows : List Row) (held : Run) (s : Standing g used held) (e : take (held .used) rows ≡ take (length rows) used) where
@@ -161,16 +161,16 @@ trace-accepts g least sum used held c o rows out out′ reply e h = (to, from)
 
     to : Accepted reply → (held .used ≤ roomOf (length rows)) × (length (word used) ≤ length out)
     to a =
-        let u = leaves-accepted reply (traceRefusal g (length rows) (take (held .used) rows) held (length out)) (length (word (take (held .used) rows)) ∷ [])
+        let u = accepted-leaves reply (traceRefusal g (length rows) (take (held .used) rows) held (length out)) (length (word (take (held .used) rows)) ∷ [])
         (front (word (take (held .used) rows)) out) out out′ h a in
-        let v = trace-accepted g (length rows) (take (held .used) rows) held (length out) .0 (u .0) in
+        let v = trace-passes g (length rows) (take (held .used) rows) held (length out) .0 (u .0) in
         let p = possible-iff (g .ls) (leftOf g .count) (rightOf g .count) (roomOf (length rows)) (take (held .used) rows) held .0 (v .1) in
         (p .within, subst (λ (x : List Row). length (word x) ≤ length out) (begins g used rows held s e (p .within)) (v .3))
 
     from : (held .used ≤ roomOf (length rows)) × (length (word used) ≤ length out) → Accepted reply
     from (f, b) =
         ap (λ (x : Leaves (List ℕ)). x .reply .refusal) h
-        ∙ trace-accepted g (length rows) (take (held .used) rows) held (length out) .1 (
+        ∙ trace-passes g (length rows) (take (held .used) rows) held (length out) .1 (
           s .both,
           possible-iff (g .ls) (leftOf g .count) (rightOf g .count) (roomOf (length rows)) (take (held .used) rows) held .1 (fits g used rows held s e f),
           o,

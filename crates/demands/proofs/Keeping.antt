@@ -1,5 +1,5 @@
--- What the rows of every state of a run keep: row 0 is the start, every other row goes on from a lower one by its letter, and no
--- two rows are one goal. Entering the candidates of a row keeps it.
+-- What the rows of every state of a run are (`Kept`): row 0 is the start, every other row goes on from a lower one by its letter, and
+-- no two rows are one goal. Rows that are so stay so when the candidates of a row are entered.
 use Prim.Native.Nat.{ℕ, _^_, _≤_, _<_}
 use mathlib.Core.Path.{_≡_, refl, sym, ap, subst, _∙_}
 use mathlib.Core.Bool.{false}
@@ -138,3 +138,15 @@ module _ (left right : Side) where
 
     pub born-entered : (n : ℕ) → Born rs n → Born (enterAll room candidatesOf (entered rs false) .rows) n
     born-entered n = keeps (λ (rs′ : List Row). Born rs′ n) (λ rs′ c b g new. born-snoc rs′ c n b g)
+
+    -- and each new row has r for its parent
+    pub entered-parents : (i : ℕ) → length rs ≤ i → i < length (enterAll room candidatesOf (entered rs false) .rows) → rowOf (enterAll room candidatesOf (entered rs false) .rows) i .parent ≡ r
+    entered-parents =
+        entered-keeps room (λ (rs′ : List Row). (i : ℕ) → length rs ≤ i → i < length rs′ → rowOf rs′ i .parent ≡ r) candidatesOf (entered rs false)
+        (λ rs′ c h a new full i p q. at rs′ c h a i p (split rs′ c i q))
+        (λ i p q. absurd (omega (arith, p, q)))
+      where
+        at : (rs′ : List Row) (c : Row) → ((i : ℕ) → length rs ≤ i → i < length rs′ → rowOf rs′ i .parent ≡ r) → Among c candidatesOf → (i : ℕ) → length rs ≤ i
+            → (i < length rs′) ⊎ (i ≡ length rs′) → rowOf (rs′ ++ (c ∷ [])) i .parent ≡ r
+        at rs′ c h a i p (inl l) = ap (λ (w : Row). w .parent) (old rs′ c i l) ∙ h i p l
+        at rs′ c h a i p (inr e) = ap (λ (w : Row). w .parent) (last rs′ c i e ∙ candidate-of left right r (rowOf rs r) c a .is)

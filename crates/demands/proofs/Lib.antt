@@ -1,5 +1,5 @@
 pub mod Both
-pub mod Answers
+pub mod InOrder
 pub mod Deciding
 pub mod Accepting
 pub mod Possible

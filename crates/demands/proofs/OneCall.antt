@@ -10,7 +10,7 @@ use Rattle.goals.specs.Refusals.{Given, recordOf, Against, against, startRefusa
 use Rattle.demands.specs.Calls.{Lent, lent, usedIn, holding, RunCall}
 use Rattle.demands.specs.Demands.{Chain, begun, goes}
 use Rattle.demands.specs.BadVersions.{withRun}
-use Rattle.demands.proofs.Accepting.{start-accepted}
+use Rattle.demands.proofs.Accepting.{start-passes}
 use Rattle.demands.proofs.Calling.{used-holding}
 
 -- so many rows, and the record that start leaves
@@ -34,5 +34,5 @@ one-call runs g least room budget l′ starts h r =
     goes {rows = ready room .rows} {held = recordOf started}
     (begun {l = ready room} {l′ = l} {reply = accepted}
     (ap (λ (w : Against). leaves w [] l (ready room)) (sym (ap (startRefusal g) (ready-length room) ∙ starts))) refl)
-    (ready-used room (start-accepted g room .0 starts .1) ∙ sym (used-holding started (ready room)))
+    (ready-used room (start-passes g room .0 starts .1) ∙ sym (used-holding started (ready room)))
     (rw (ready-length room) h) r refl

@@ -13,7 +13,7 @@ use borrow.Author.Tests.{eq-eqb, ne-eqb, eqb-true, eqb-false, ltb-true, ltb-fals
 use Rattle.bits.specs.Bit.{bit, has, within}
 use Rattle.bits.proofs.Laws.{bit-low, bit-lt}
 use Rattle.effect.specs.Refusals.{someBelow}
-use Rattle.effect.proofs.Laws.{or-none, not-none, below-none}
+use Rattle.effect.proofs.Laws.{and-all, or-none, not-none, below-none}
 use Rattle.goals.specs.declared.Row.{Row}
 use Rattle.goals.specs.declared.Run.{Run}
 use Rattle.goals.specs.Goals.{row, rowZero}
@@ -37,10 +37,6 @@ pub record Possible (s m k room : ℕ) (rows : List Row) (r : Run) : Type 0 wher
 and-none : (a b : Bool) → ((a && b) ≡ false) ↔ (a ≡ true → b ≡ false)
 and-none true b = ((λ h e. h), (λ h. h refl))
 and-none false b = ((λ h e. absurd (false≢true e)), (λ h. refl))
-
-and-all : (a b : Bool) → ((a && b) ≡ true) ↔ ((a ≡ true) × (b ≡ true))
-and-all true b = ((λ h. (refl, h)), (λ h. h .1))
-and-all false b = ((λ h. absurd (false≢true h)), (λ h. h .0))
 
 -- none of six tests passes, as the record asks them; a row's six stand in other brackets
 six-none : (a b c d e f : Bool)

@@ -6,15 +6,15 @@ use mathlib.Core.Bool.{Bool, true, false}
 use mathlib.Core.List.{List, [], _∷_, _++_}
 use native.Mathlib.Omega.{arith}
 use lib.Dec.{eqb}
-use lib.ListN.{length, take}
+use lib.ListN.{length}
 use borrow.Author.Tests.{eqb-true, eqb-false}
 use Rattle.effect.specs.Refusals.{front}
 use Rattle.goals.specs.declared.Row.{Row}
 use Rattle.goals.specs.Run.{wordIn, traceOf}
-use Rattle.goals.specs.Refusals.{Given, leftOf, rightOf, traceRefusal, Reply}
-use Rattle.demands.specs.Calls.{lent, ours, Traces, Accepted}
-use Rattle.demands.specs.Demands.{rowOf, RefutedOnlyWith}
-use Rattle.demands.proofs.Accepting.{leaves-accepted}
+use Rattle.goals.specs.Refusals.{Given, leftOf, rightOf, traceRefusal}
+use Rattle.demands.specs.Calls.{usedIn, ours}
+use Rattle.demands.specs.Demands.{rowOf, RefutedOnlyWith, TraceHands}
+use Rattle.demands.proofs.Accepting.{accepted-leaves}
 use Rattle.demands.proofs.Reaching.{left-signals, ReachesBy, reaches-start, reaches-step, bad-refutes}
 use Rattle.demands.proofs.Keeping.{Kept}
 use Rattle.demands.proofs.Standing.{chain-standing}
@@ -49,16 +49,11 @@ module _ (g : Given) (rs : List Row) (k : Kept (leftOf g) (rightOf g) rs) where
 pub refuted-only-with : RefutedOnlyWith ours
 refuted-only-with g least sum used held c e =
     let s = chain-standing g least sum used held c in
-    let r = bad-refutes g (s .both) (traceOf used (held .settled)) (rowOf used (held .settled) .place) (rowOf used (held .settled) .set)
-    (row-reached g used (s .kept) (held .settled) (s .undone (λ (q : held .outcome ≡ 1). omega (arith, q, e)))) (s .refuted e) in
-    (r .0, r .1, λ rows out out′ reply q h a. handed rows out out′ reply q h a)
-  where
-    handed : (rows : List Row) (out out′ : List ℕ) (reply : Reply) → take (held .used) rows ≡ used
-        → Traces g (lent rows held) out reply out′ → Accepted reply
-        → (reply .values ≡ length (traceOf used (held .settled)) ∷ []) × (out′ ≡ front (traceOf used (held .settled)) out)
-    handed rows out out′ reply q h a =
-        let word : List Row → List ℕ = λ (u : List Row). traceOf u (held .settled) in
-        let u = leaves-accepted reply (traceRefusal g (length rows) (take (held .used) rows) held (length out)) (length (word (take (held .used) rows)) ∷ []) (front (word (take (held .used) rows)) out) out out′ h a in (
-          u .2 ∙ ap (λ (v : List Row). length (word v) ∷ []) q,
-          u .1 ∙ ap (λ (v : List Row). front (word v) out) q,
-        )
+    bad-refutes g (s .both) (traceOf used (held .settled)) (rowOf used (held .settled) .place) (rowOf used (held .settled) .set)
+    (row-reached g used (s .kept) (held .settled) (s .undone (λ (q : held .outcome ≡ 1). omega (arith, q, e)))) (s .refuted e)
+
+pub trace-hands : TraceHands ours
+trace-hands g l out out′ reply h a =
+    let word = traceOf (usedIn l) (l .held .settled) in
+    let u = accepted-leaves reply (traceRefusal g (length (l .rows)) (usedIn l) (l .held) (length out)) (length word ∷ []) (front word out) out out′ h a in
+    (u .2, u .1)

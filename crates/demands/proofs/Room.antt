@@ -1,8 +1,8 @@
 -- Demand 3, room and budget: the goals that there can be are 1 + m × 2^k, so with that much room none is ever lacked, and an open
 -- run has settled a row for each step of its budgets. And what "no room" says of any run call.
-use Prim.Native.Nat.{ℕ, suc, _+_, _-_, _^_, _≤_, _<_}
+use Prim.Native.Nat.{ℕ, suc, _+_, _^_, _≤_, _<_}
 use mathlib.Core.Path.{_≡_, refl, sym, ap, subst, _∙_}
-use mathlib.Core.Bool.{false, true≢false}
+use mathlib.Core.Bool.{true≢false}
 use mathlib.Core.Logic.{_⊎_, inl, inr, ⊎-elim, _↔_, _≢_}
 use mathlib.Core.List.{List}
 use native.Mathlib.Decide.{ℕ-discrete}
@@ -10,12 +10,11 @@ use native.Mathlib.Omega.{arith}
 use lib.ListN.{length}
 use Rattle.goals.specs.declared.Row.{Row}
 use Rattle.goals.specs.declared.Run.{Run}
-use Rattle.goals.specs.Goals.{bad}
 use Rattle.goals.specs.Run.{State}
 use Rattle.goals.specs.Refusals.{Given, leftOf, rightOf, roomOf, recordOf, Reply}
 use Rattle.places.specs.Readings.{post}
-use Rattle.demands.specs.Calls.{Lent, lent, usedIn, ours, Runs, Accepted}
-use Rattle.demands.specs.Demands.{rowOf, Has, Follows, most, Chain, begun, goes, waits, strays, traced, RoomAndBudget, NoRoom, BudgetEnds}
+use Rattle.demands.specs.Calls.{Lent, usedIn, ours, Runs, Accepted}
+use Rattle.demands.specs.Demands.{rowOf, most, Chain, RoomAndBudget, Lacks, NoRoom, BudgetEnds}
 use Rattle.demands.proofs.Both.{Both}
 use Rattle.demands.proofs.Possible.{Possible}
 use Rattle.demands.proofs.Bound.{Late, goals-bound}
@@ -24,7 +23,7 @@ use Rattle.demands.proofs.Reaching.{left-signals, left-count, right-cou
 use Rattle.demands.proofs.Keeping.{Goes, Kept, kept-snoc, candidate-goes}
 use Rattle.demands.proofs.Stepping.{Stuck, Went}
 use Rattle.demands.proofs.Calling.{before, after-cases, ran-is, ran-possible, lent-used, lent-unsettled}
-use Rattle.demands.proofs.Standing.{Standing, chain-standing, start-held, refused-stays}
+use Rattle.demands.proofs.Standing.{Standing, start-holding, start-standing, run-standing, chain-keeps}
 use Rattle.demands.proofs.Closing.{not-decided}
 
 -- ---- how many rows there can be
@@ -48,10 +47,14 @@ never-stuck g both room n m st st′ k h s =
     (kept-snoc (leftOf g) (rightOf g) (st′ .rows) (s .lacked) k (candidate-goes (leftOf g) (rightOf g) (st′ .rows) (st′ .settled) (s .lacked) h (s .next)) (s .new)) in
     omega (arith, bound, length-snoc (st′ .rows) (s .lacked), s .filled)
 
-pub four : (o : ℕ) → o ≤ 3 → (o ≡ 0) ⊎ ((o ≡ 1) ⊎ ((o ≡ 2) ⊎ (o ≡ 3)))
+-- an outcome is one of four
+abbrev pub Four : ℕ → Type 0
+Four o = (o ≡ 0) ⊎ ((o ≡ 1) ⊎ ((o ≡ 2) ⊎ (o ≡ 3)))
+
+pub four : (o : ℕ) → o ≤ 3 → Four o
 four o h = go (ℕ-discrete o 0) (ℕ-discrete o 1) (ℕ-discrete o 2)
   where
-    go : Dec (o ≡ 0) → Dec (o ≡ 1) → Dec (o ≡ 2) → (o ≡ 0) ⊎ ((o ≡ 1) ⊎ ((o ≡ 2) ⊎ (o ≡ 3)))
+    go : Dec (o ≡ 0) → Dec (o ≡ 1) → Dec (o ≡ 2) → Four o
     go (yes a) q r = inl a
     go (no a) (yes b) r = inr (inl b)
     go (no a) (no b) (yes c) = inr (inr (inl c))
@@ -78,7 +81,7 @@ run-fed g l l′ budget sum reply m h a s f =
       (λ e. omega (arith, w .all e, f .1 (entry (four (l .held .outcome) (s .few))))),
     )
       where
-        entry : (l .held .outcome ≡ 0) ⊎ ((l .held .outcome ≡ 1) ⊎ ((l .held .outcome ≡ 2) ⊎ (l .held .outcome ≡ 3))) → l .held .outcome ≡ 0
+        entry : Four (l .held .outcome) → l .held .outcome ≡ 0
         entry (inl z) = z
         entry (inr (inl z)) = absurd (p z)
         entry (inr (inr (inl z))) = absurd (q z)
@@ -88,28 +91,28 @@ room-enough : (m n : ℕ) → m ≤ 65535 → m ≤ n → m ≤ roomOf n
 unfolding roomOf
 room-enough m n h k = omega arith
 
-chain-fed : (g : Given) → most g ≤ 65535 → (sum : ℕ) (used : List Row) (held : Run) → Chain ours g (most g) used held sum → Fed sum held
-chain-fed g m _ _ _ (begun {l} {l′} {reply} h a) =
-    subst (Fed 0) (sym (start-held g l l′ reply h a)) ((λ e. omega (arith, e)), (λ e. refl))
-chain-fed g m _ _ _ (goes {used} {rows} {held} {sum} {budget} {reply} {l′} c e b h a) =
-    run-fed g (lent rows held) l′ budget sum reply (room-enough (most g) (length rows) m b) h a
-    (subst (λ (w : List Row). Standing g w held) (sym e) (chain-standing g (most g) sum used held c)) (chain-fed g m sum used held c)
-chain-fed g m _ _ _ (waits {used} {rows} {held} {sum} {budget} {other} {reply} {l′} c e h f) =
-    subst (λ (l : Lent). Fed sum (l .held)) (sym (refused-stays other (lent rows held) l′ budget reply h f)) (chain-fed g m sum used held c)
-chain-fed g m _ _ _ (strays {used} {rows} {held} {sum} {budget} {other} {reply} {l′} c h f) =
-    subst (λ (l : Lent). Fed sum (l .held)) (sym (refused-stays other (lent rows held) l′ budget reply h f)) (chain-fed g m sum used held c)
-chain-fed g m _ _ _ (traced {used} {rows} {held} {sum} c h) = chain-fed g m sum used held c
+chain-fed : (g : Given) → most g ≤ 65535 → (sum : ℕ) (used : List Row) (held : Run) → Chain ours g (most g) used held sum → Standing g used held × Fed sum held
+chain-fed g m =
+    chain-keeps g (most g) (λ (used : List Row) (held : Run) (sum : ℕ). Standing g used held × Fed sum held)
+    (λ l l′ reply h a. (
+      start-standing g l l′ reply h a,
+      subst (Fed 0) (sym (ap (λ (x : Lent). x .held) (start-holding g l l′ reply h a .1))) ((λ e. omega (arith, e)), (λ e. refl)),
+    ))
+    (λ l l′ budget sum reply b h a p. (
+      run-standing g l l′ budget reply h a (p .0),
+      run-fed g l l′ budget sum reply (room-enough (most g) (length (l .rows)) m b) h a (p .0) (p .1),
+    ))
 
 pub room-and-budget : RoomAndBudget ours
 room-and-budget g sum used held m c = (f .0, λ b. verdict b (four (held .outcome) (s .few)))
   where
-    f : Fed sum held
-    f = chain-fed g m sum used held c
-
     s : Standing g used held
-    s = chain-standing g (most g) sum used held c
+    s = chain-fed g m sum used held c .0
 
-    verdict : most g ≤ sum → (held .outcome ≡ 0) ⊎ ((held .outcome ≡ 1) ⊎ ((held .outcome ≡ 2) ⊎ (held .outcome ≡ 3))) → (held .outcome ≡ 1) ⊎ (held .outcome ≡ 2)
+    f : Fed sum held
+    f = chain-fed g m sum used held c .1
+
+    verdict : most g ≤ sum → Four (held .outcome) → (held .outcome ≡ 1) ⊎ (held .outcome ≡ 2)
     verdict b (inl e) =
         let bound = rows-bound g (s .both) used (s .kept) in
         absurd (omega (arith, bound, f .1 e, s .undone (λ (q : held .outcome ≡ 1). omega (arith, q, e))))
@@ -118,28 +121,19 @@ room-and-budget g sum used held m c = (f .0, λ b. verdict b (four (held .outcom
     verdict b (inr (inr (inr e))) = absurd (f .0 e)
 
 -- ---- any run call
--- the next row is not bad, the rows fill the room, and a goal that follows it stands in none of them
-abbrev Lacking : Given → Lent → ℕ → List Row → Run → Type 0
-Lacking g l budget used held =
-    (held .settled < held .used)
-    × (held .settled - l .held .settled < budget)
-    × (bad (leftOf g) (rightOf g) (rowOf used (held .settled)) ≡ false)
-    × (held .used ≡ roomOf (length (l .rows)))
-    × ((x : ℕ) × (p : ℕ) × (S : ℕ) × Follows g (rowOf used (held .settled)) x p S × (Has used p S → ⊥))
-
 pub no-room : NoRoom ours
 no-room g l l′ budget reply h a u n =
-    ran-is g l l′ budget reply h a (λ (used : List Row) (held : Run). 1 ≤ budget → (held .outcome ≡ 3) ↔ Lacking g l budget used held)
-    (after-cases g l (λ (b : ℕ) (st : State). 1 ≤ b → (st .outcome ≡ 3) ↔ Lacking g l b (st .rows) (recordOf st))
+    ran-is g l l′ budget reply h a (λ (used : List Row) (held : Run). 1 ≤ budget → (held .outcome ≡ 3) ↔ Lacks g l budget used held)
+    (after-cases g l (λ (b : ℕ) (st : State). 1 ≤ b → (st .outcome ≡ 3) ↔ Lacks g l b (st .rows) (recordOf st))
     (λ b d. absurd (not-decided (l .held) u d))
     (λ z. absurd (omega (arith, z)))
     (λ b p q st w z. stops b st (w (lent-unsettled g l l′ budget reply h a p)))
     budget) n
   where
-    stops : (b : ℕ) (st : State) → Went (leftOf g) (rightOf g) (roomOf (length (l .rows))) (suc b) (before l) st → (st .outcome ≡ 3) ↔ Lacking g l (suc b) (st .rows) (recordOf st)
+    stops : (b : ℕ) (st : State) → Went (leftOf g) (rightOf g) (roomOf (length (l .rows))) (suc b) (before l) st → (st .outcome ≡ 3) ↔ Lacks g l (suc b) (st .rows) (recordOf st)
     stops b st w = (to, λ k. from k (four (st .outcome) (w .few)))
       where
-        to : st .outcome ≡ 3 → Lacking g l (suc b) (st .rows) (recordOf st)
+        to : st .outcome ≡ 3 → Lacks g l (suc b) (st .rows) (recordOf st)
         to e =
             let s = w .stuck e in
             let d = candidate-of (leftOf g) (rightOf g) (st .settled) (rowOf (st .rows) (st .settled)) (s .lacked) (s .next) in (
@@ -157,7 +151,7 @@ no-room g l l′ budget reply h a u n =
               ),
             )
 
-        from : Lacking g l (suc b) (st .rows) (recordOf st) → (st .outcome ≡ 0) ⊎ ((st .outcome ≡ 1) ⊎ ((st .outcome ≡ 2) ⊎ (st .outcome ≡ 3))) → st .outcome ≡ 3
+        from : Lacks g l (suc b) (st .rows) (recordOf st) → Four (st .outcome) → st .outcome ≡ 3
         from k (inl e) = absurd (omega (arith, w .all e, k .1))
         from k (inr (inl e)) = absurd (omega (arith, w .done e, k .0))
         from k (inr (inr (inl e))) = absurd (true≢false (sym (w .refuted e .0) ∙ k .2))
@@ -181,7 +175,7 @@ budget-ends g l l′ budget reply h a =
     ends : (b : ℕ) → roomOf (length (l .rows)) ≤ suc b → (st : State) → Went (leftOf g) (rightOf g) (roomOf (length (l .rows))) (suc b) (before l) st → Ended (recordOf st)
     ends b z st w = by (four (st .outcome) (w .few))
       where
-        by : (st .outcome ≡ 0) ⊎ ((st .outcome ≡ 1) ⊎ ((st .outcome ≡ 2) ⊎ (st .outcome ≡ 3))) → Ended (recordOf st)
+        by : Four (st .outcome) → Ended (recordOf st)
         by (inl e) =
             let in-room = w .within (rw (lent-used g l l′ budget reply h a) (possible .within)) in
             absurd (omega (arith, w .all e, in-room, w .undone (λ (q : st .outcome ≡ 1). omega (arith, q, e)), z))

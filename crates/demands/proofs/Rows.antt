@@ -14,7 +14,7 @@ use lib.Seq.{getD-append-seam}
 use borrow.Author.Tests.{eq-eqb, eqb-true}
 use Rattle.bits.specs.Bit.{Mem, has}
 use Rattle.bits.proofs.Laws.{mem-and}
-use Rattle.effect.proofs.Laws.{or-some}
+use Rattle.effect.proofs.Laws.{and-all, or-some}
 use Rattle.places.specs.declared.Side.{Side}
 use Rattle.places.specs.Readings.{matching, followers, post}
 use Rattle.goals.specs.declared.Row.{Row}
@@ -52,10 +52,6 @@ pub row-snoc : (rs : List Row) (c : Row) → rowOf (rs ++ (c ∷ [])) (length rs
 row-snoc rs c = getD-append-seam rs c [] rowZero
 
 -- ---- goals that stand in rows
-and-true : (a b : Bool) → (a && b) ≡ true → (a ≡ true) × (b ≡ true)
-and-true true b h = (refl, h)
-and-true false b h = absurd (true≢false (sym h))
-
 has-later : (w : Row) (ws : List Row) (p S : ℕ) → Has ws p S → Has (w ∷ ws) p S
 has-later w ws p S (i, h, a, b) = (suc i, omega arith, a, b)
 
@@ -66,7 +62,7 @@ known-has c (w ∷ ws) h =
     ⊎-elim here (λ g. has-later w ws (c .place) (c .set) (known-has c ws g)) (or-some (eqb (w .place) (c .place) && eqb (w .set) (c .set)) (known c ws) .0 h)
   where
     here : (eqb (w .place) (c .place) && eqb (w .set) (c .set)) ≡ true → Has (w ∷ ws) (c .place) (c .set)
-    here g = let u = and-true (eqb (w .place) (c .place)) (eqb (w .set) (c .set)) g in (0, omega arith, eqb-true _ _ (u .0), eqb-true _ _ (u .1))
+    here g = let u = and-all (eqb (w .place) (c .place)) (eqb (w .set) (c .set)) .0 g in (0, omega arith, eqb-true _ _ (u .0), eqb-true _ _ (u .1))
 
 has-known : (c : Row) (rs : List Row) (i : ℕ) → i < length rs → rowOf rs i .place ≡ c .place → rowOf rs i .set ≡ c .set → known c rs ≡ true
 unfolding known
@@ -129,7 +125,6 @@ module _ (left right : Side) (i : ℕ) (w : Row) where
     pub by : ℕ
     pub at : ℕ
     pub below : by < 2 ^ (left .s)
-    pub near : at < 64
     pub follows : Mem (followers left (w .place)) at
     pub matches : Mem (matching left by) at
     pub is : c ≡ goalAt by at
@@ -139,13 +134,13 @@ module _ (left right : Side) (i : ℕ) (w : Row) where
   candidate-of c h =
       let (x, l, a) = among-letter (goalsOf left right i w) (2 ^ (left .s)) c .0 h in
       let (k, m, b) = among-member (bitAnd (followers left (w .place)) (matching left x)) (goalAt x) 64 c .0 a in
-      one x k l m (has (bitAnd (followers left (w .place)) (matching left x)) k) refl b
+      one x k l (has (bitAnd (followers left (w .place)) (matching left x)) k) refl b
     where
-      one : (x k : ℕ) → x < 2 ^ (left .s) → k < 64 → (b : Bool) → has (bitAnd (followers left (w .place)) (matching left x)) k ≡ b
+      one : (x k : ℕ) → x < 2 ^ (left .s) → (b : Bool) → has (bitAnd (followers left (w .place)) (matching left x)) k ≡ b
           → Among c (cond b (goalAt x k ∷ []) []) → Candidate c
-      one x k l m true e (inl q) =
+      one x k l true e (inl q) =
           let u = mem-and (followers left (w .place)) (matching left x) k .0 (eqb-true _ _ e) in
-          record { by = x; at = k; below = l; near = m; follows = u .0; matches = u .1; is = q }
+          record { by = x; at = k; below = l; follows = u .0; matches = u .1; is = q }
 
   pub of-candidate : (x k : ℕ) → x < 2 ^ (left .s) → k < 64 → Mem (followers left (w .place)) k → Mem (matching left x) k
       → Among (goalAt x k) (candidates left right i w)

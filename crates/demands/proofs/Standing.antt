@@ -1,6 +1,6 @@
 -- What every state of a chain keeps: the sides pass, the rows are kept, what is settled is closed, and the outcome says how far the
 -- run is. Start makes such a state, an accepted run call keeps it, and a refused call leaves everything.
-use Prim.Native.Nat.{ℕ, _≤_, _<_}
+use Prim.Native.Nat.{ℕ, _+_, _≤_, _<_}
 use mathlib.Core.Path.{_≡_, refl, sym, ap, subst}
 use mathlib.Core.Bool.{true}
 use mathlib.Core.Logic.{_⊎_, inl, inr, _≢_}
@@ -16,7 +16,7 @@ use Rattle.goals.specs.Refusals.{Given, leftOf, rightOf, recordOf, startRefusal
 use Rattle.demands.specs.Calls.{Lent, lent, usedIn, holding, Starts, Runs, ours, Accepted, Refused}
 use Rattle.demands.specs.Demands.{rowOf, Chain, begun, goes, waits, strays, traced}
 use Rattle.demands.proofs.Both.{Both}
-use Rattle.demands.proofs.Accepting.{start-accepted, leaves-accepted, leaves-refused}
+use Rattle.demands.proofs.Accepting.{start-passes, accepted-leaves, refused-leaves}
 use Rattle.demands.proofs.Keeping.{Kept, kept-start}
 use Rattle.demands.proofs.Stepping.{Closed, closed-extends, Went}
 use Rattle.demands.proofs.Calling.{before, after, after-cases, used-holding, ran-is}
@@ -33,15 +33,15 @@ pub record Standing (g : Given) (used : List Row) (held : Run) : Type 0 where
 
 -- ---- start
 module _ (g : Given) (l l′ : Lent) (reply : Reply) (h : Starts g l reply l′) (a : Accepted reply) where
-  start-holding : Both g × (l′ ≡ holding started l)
+  pub start-holding : Both g × (l′ ≡ holding started l)
   start-holding =
-      let u = leaves-accepted reply (startRefusal g (length (l .rows))) [] (holding started l) l l′ h a in
-      (start-accepted g (length (l .rows)) .0 (u .0) .0, u .1)
+      let u = accepted-leaves reply (startRefusal g (length (l .rows))) [] (holding started l) l l′ h a in
+      (start-passes g (length (l .rows)) .0 (u .0) .0, u .1)
 
   pub start-held : l′ .held ≡ recordOf started
   start-held = ap (λ (m : Lent). m .held) (start-holding .1)
 
-  start-standing : Standing g (usedIn l′) (l′ .held)
+  pub start-standing : Standing g (usedIn l′) (l′ .held)
   start-standing =
       subst (λ (m : Lent). Standing g (usedIn m) (m .held)) (sym (start-holding .1))
       (subst (λ (rows : List Row). Standing g rows (recordOf started)) (sym (used-holding started l))
@@ -94,19 +94,29 @@ pub run-standing : (g : Given) (l l′ : Lent) (budget : ℕ) (reply : Reply) �
 run-standing g l l′ budget reply h a s = ran-is g l l′ budget reply h a (Standing g) (after-standing g l s budget)
 
 -- ---- a refused call
-pub refused-stays : (g : Given) (l l′ : Lent) (budget : ℕ) (reply : Reply) → Starts g l reply l′ ⊎ Runs g l budget reply l′ → Refused reply → l′ ≡ l
-refused-stays g l l′ budget reply (inl h) r = leaves-refused reply (startRefusal g (length (l .rows))) [] (holding started l) l l′ h r
+refused-stays : (g : Given) (l l′ : Lent) (budget : ℕ) (reply : Reply) → Starts g l reply l′ ⊎ Runs g l budget reply l′ → Refused reply → l′ ≡ l
+refused-stays g l l′ budget reply (inl h) r = refused-leaves reply (startRefusal g (length (l .rows))) [] (holding started l) l l′ h r
 refused-stays g l l′ budget reply (inr h) r =
-    leaves-refused reply (runRefusal g (length (l .rows)) (usedIn l) (l .held)) [] (holding (after g l budget) l) l l′ h r
+    refused-leaves reply (runRefusal g (length (l .rows)) (usedIn l) (l .held)) [] (holding (after g l budget) l) l l′ h r
 
 -- ---- the chain
+-- what holds after an accepted start and is kept by an accepted run call holds of every state
+pub chain-keeps : (g : Given) (least : ℕ) (P : List Row → Run → ℕ → Type 0)
+    → ((l l′ : Lent) (reply : Reply) → Starts g l reply l′ → Accepted reply → P (usedIn l′) (l′ .held) 0)
+    → ((l l′ : Lent) (budget sum : ℕ) (reply : Reply) → least ≤ length (l .rows) → Runs g l budget reply l′ → Accepted reply → P (usedIn l) (l .held) sum
+    → P (usedIn l′) (l′ .held) (sum + budget))
+    → (sum : ℕ) (used : List Row) (held : Run) → Chain ours g least used held sum → P used held sum
+chain-keeps g least P starts runs _ _ _ (begun {l} {l′} {reply} h a) = starts l l′ reply h a
+chain-keeps g least P starts runs _ _ _ (goes {used} {rows} {held} {sum} {budget} {reply} {l′} c e m h a) =
+    runs (lent rows held) l′ budget sum reply m h a (subst (λ (w : List Row). P w held sum) (sym e) (chain-keeps g least P starts runs sum used held c))
+chain-keeps g least P starts runs _ _ _ (waits {used} {rows} {held} {sum} {budget} {other} {reply} {l′} c e h f) =
+    subst (λ (l : Lent). P (usedIn l) (l .held) sum) (sym (refused-stays other (lent rows held) l′ budget reply h f))
+    (subst (λ (w : List Row). P w held sum) (sym e) (chain-keeps g least P starts runs sum used held c))
+chain-keeps g least P starts runs _ _ _ (strays {used} {rows} {held} {sum} {budget} {other} {reply} {l′} c h f) =
+    subst (λ (l : Lent). P used (l .held) sum) (sym (refused-stays other (lent rows held) l′ budget reply h f)) (chain-keeps g least P starts runs sum used held c)
+chain-keeps g least P starts runs _ _ _ (traced {used} {rows} {held} {sum} c h) = chain-keeps g least P starts runs sum used held c
+
 pub chain-standing : (g : Given) (least sum : ℕ) (used : List Row) (held : Run) → Chain ours g least used held sum → Standing g used held
-chain-standing g least _ _ _ (begun {l} {l′} {reply} h a) = start-standing g l l′ reply h a
-chain-standing g least _ _ _ (goes {used} {rows} {held} {sum} {budget} {reply} {l′} c e m h a) =
-    run-standing g (lent rows held) l′ budget reply h a (subst (λ (w : List Row). Standing g w held) (sym e) (chain-standing g least sum used held c))
-chain-standing g least _ _ _ (waits {used} {rows} {held} {sum} {budget} {other} {reply} {l′} c e h f) =
-    subst (λ (l : Lent). Standing g (usedIn l) (l .held)) (sym (refused-stays other (lent rows held) l′ budget reply h f))
-    (subst (λ (w : List Row). Standing g w held) (sym e) (chain-standing g least sum used held c))
-chain-standing g least _ _ _ (strays {used} {rows} {held} {sum} {budget} {other} {reply} {l′} c h f) =
-    subst (λ (l : Lent). Standing g used (l .held)) (sym (refused-stays other (lent rows held) l′ budget reply h f)) (chain-standing g least sum used held c)
-chain-standing g least _ _ _ (traced {used} {rows} {held} {sum} c h) = chain-standing g least sum used held c
+chain-standing g least =
+    chain-keeps g least (λ (used : List Row) (held : Run) (sum : ℕ). Standing g used held) (λ l l′ reply h a. start-standing g l l′ reply h a)
+    (λ l l′ budget sum reply m h a s. run-standing g l l′ budget reply h a s)

@@ -20,7 +20,7 @@ use Rattle.columns.proofs.Budget.{steps-more, steps-stop}
 use Rattle.demands.specs.Demands.{rowOf, Has}
 use Rattle.demands.proofs.Rows.{Extends, extends-refl, extends-trans, extends-longer, extends-row, extends-has, Among, goalAt, of-candidate}
 use Rattle.demands.proofs.Entering.{entered, entered-extends, entered-within, entered-has, entered-lacks}
-use Rattle.demands.proofs.Keeping.{Kept, Born, kept-entered, born-entered}
+use Rattle.demands.proofs.Keeping.{Kept, Born, kept-entered, born-entered, entered-parents}
 
 module _ (left right : Side) where
   -- row i is closed: it is not bad, and each goal that follows it stands in a row
@@ -72,14 +72,20 @@ module _ (left right : Side) where
       pub next : Among lacked (candidates left right (st′ .settled) (rowOf (st′ .rows) (st′ .settled)))
       pub new : known lacked (st′ .rows) ≡ false
 
+    -- p is the row of a step between two states, or the one that found no room
+    abbrev pub Comes : State → State → ℕ → Type 0
+    Comes st st′ p = (st .settled ≤ p) × (p ≤ st′ .settled) × (p ≡ st′ .settled → st′ .outcome ≡ 3)
+
     -- what n steps, at least one, make of a state
     pub record Went (n : ℕ) (st st′ : State) : Type 0 where
       pub more : st .settled ≤ st′ .settled
-      pub most : st′ .settled ≤ st .settled + n
+      pub paid : st′ .settled ≤ st .settled + n
       pub all : st′ .outcome ≡ 0 → st′ .settled ≡ st .settled + n
       pub extends : Extends (st .rows) (st′ .rows)
       pub within : length (st .rows) ≤ room → length (st′ .rows) ≤ room
       pub closed : (i : ℕ) → st .settled ≤ i → i < st′ .settled → Closed (st′ .rows) i
+      -- a new row comes from the row of a step, or from the one that found no room
+      pub from-step : (i : ℕ) → length (st .rows) ≤ i → i < length (st′ .rows) → Comes st st′ (rowOf (st′ .rows) i .parent)
       pub kept : Kept left right (st .rows) → Kept left right (st′ .rows)
       pub born : (n : ℕ) → Born left right (st .rows) n → Born left right (st′ .rows) n
       pub few : st′ .outcome ≤ 3
@@ -99,6 +105,10 @@ module _ (left right : Side) where
       fits : length (st .rows) ≤ room → length rows′ ≤ room
       fits = entered-within room (candidates left right (st .settled) (rowOf (st .rows) (st .settled))) (entered (st .rows) false)
 
+      -- each new row is a candidate of this one
+      parents : (i : ℕ) → length (st .rows) ≤ i → i < length rows′ → rowOf rows′ i .parent ≡ st .settled
+      parents = entered-parents left right room (st .rows) (st .settled) h
+
       same-row : rowOf rows′ (st .settled) ≡ rowOf (st .rows) (st .settled)
       same-row = extends-row (st .rows) rows′ grown (st .settled) h
 
@@ -106,11 +116,12 @@ module _ (left right : Side) where
       went-refutes p =
           record {
             more = omega arith;
-            most = omega arith;
+            paid = omega arith;
             all = λ e. absurd (omega (arith, e));
             extends = extends-refl (st .rows);
             within = λ l. l;
             closed = λ i a b. absurd (omega (arith, a, b));
+            from-step = λ i a b. absurd (omega (arith, a, b));
             kept = λ k. k;
             born = λ n b. b;
             few = omega arith;
@@ -125,11 +136,12 @@ module _ (left right : Side) where
           let u = entered-lacks room (candidates left right (st .settled) (rowOf (st .rows) (st .settled))) (st .rows) f in
           record {
             more = omega arith;
-            most = omega arith;
+            paid = omega arith;
             all = λ e. absurd (omega (arith, e));
             extends = grown;
             within = fits;
             closed = λ i a b. absurd (omega (arith, a, b));
+            from-step = λ i a b. (omega (arith, parents i a b), omega (arith, parents i a b), λ e. refl);
             kept = kept-entered left right room (st .rows) (st .settled) h;
             born = born-entered left right room (st .rows) (st .settled) h;
             few = omega arith;
@@ -163,11 +175,12 @@ module _ (left right : Side) where
       went-closes p f last e =
           record {
             more = omega arith;
-            most = omega arith;
+            paid = omega arith;
             all = λ z. omega arith;
             extends = grown;
             within = fits;
             closed = λ i a b. subst (λ (j : ℕ). Closed rows′ j) (let z : st .settled ≡ i = omega (arith, a, b) in z) (closes-row p f);
+            from-step = λ i a b. (omega (arith, parents i a b), omega (arith, parents i a b), λ q. absurd (omega (arith, parents i a b, q)));
             kept = kept-entered left right room (st .rows) (st .settled) h;
             born = born-entered left right room (st .rows) (st .settled) h;
             few = few-at last;
@@ -199,7 +212,7 @@ module _ (left right : Side) where
           done-at true q z = eqb-true _ _ q
           done-at false q z = absurd (omega (arith, z))
 
-      pub step-went : Went 1 st (step left right room st)
+      step-went : Went 1 st (step left right room st)
       step-went = step-cases (λ (st′ : State). Went 1 st st′) st went-refutes went-fills went-closes
 
     -- ---- steps one after another
@@ -207,11 +220,12 @@ module _ (left right : Side) where
     went-stop n st st′ w z =
         record {
           more = w .more;
-          most = omega (arith, w .most);
+          paid = omega (arith, w .paid);
           all = λ e. absurd (z e);
           extends = w .extends;
           within = w .within;
           closed = w .closed;
+          from-step = w .from-step;
           kept = w .kept;
           born = w .born;
           few = w .few;
@@ -226,11 +240,12 @@ module _ (left right : Side) where
     went-then n st next st′ w z v =
         record {
           more = omega (arith, w .more, v .more);
-          most = omega (arith, w .most, v .most);
+          paid = omega (arith, w .paid, v .paid);
           all = λ e. omega (arith, w .all z, v .all e);
           extends = extends-trans (st .rows) (next .rows) (st′ .rows) (w .extends) (v .extends);
           within = λ l. v .within (w .within l);
           closed = λ i a b. closed-at i a b (decLt i (next .settled));
+          from-step = λ i a b. from-at i a b (decLt i (length (next .rows)));
           kept = λ k. v .kept (w .kept k);
           born = λ m b. v .born m (w .born m b);
           few = v .few;
@@ -246,6 +261,14 @@ module _ (left right : Side) where
             closed-extends (next .rows) (st′ .rows) i (v .extends)
             (omega (arith, l, w .undone (λ (q : next .outcome ≡ 1). omega (arith, q, z)))) (w .closed i a l)
         closed-at i a b (no l) = v .closed i (omega (arith, l)) b
+
+        from-at : (i : ℕ) → length (st .rows) ≤ i → i < length (st′ .rows) → Dec (i < length (next .rows)) → Comes st st′ (rowOf (st′ .rows) i .parent)
+        from-at i a b (yes l) =
+            let u = w .from-step i a l in
+            let below : rowOf (next .rows) i .parent ≢ next .settled = λ e. absurd (omega (arith, z, u .2 e)) in
+            subst (λ (r : Row). Comes st st′ (r .parent)) (sym (extends-row (next .rows) (st′ .rows) (v .extends) i l))
+            (u .0, omega (arith, u .1, v .more), λ e. absurd (omega (arith, u .1, v .more, e, below)))
+        from-at i a b (no l) = let u = v .from-step i (omega (arith, l)) b in (omega (arith, u .0, w .more), u .1, u .2)
 
     pub steps-went : (b : ℕ) (st : State) → st .settled < length (st .rows) → Went (suc b) st (steps left right room (suc b) st)
     unfolding steps

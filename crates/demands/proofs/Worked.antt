@@ -16,7 +16,7 @@ use Rattle.goals.proofs.Worked.{worked}
 use Rattle.demands.specs.Calls.{Lent, usedIn, holding, Runs, ours}
 use Rattle.demands.specs.Demands.{leftNodes, rightNodes, LeftTrace, RightTrace, Chain}
 use Rattle.demands.specs.Worked.{Meant, inAmple, Holds, Worked}
-use Rattle.demands.proofs.Accepting.{start-accepted}
+use Rattle.demands.proofs.Accepting.{start-passes}
 use Rattle.demands.proofs.Calling.{after, used-holding}
 use Rattle.demands.proofs.Included.{included-only-if}
 use Rattle.demands.proofs.Refuting.{refuted-only-with}
@@ -38,7 +38,7 @@ module _ (c : Comparison) (gives : Gives c) (tables : Tables c) where
   l = ready room
 
   used : usedIn l ≡ started .rows
-  used = ready-used room (start-accepted g room .0 (gives .starts) .1)
+  used = ready-used room (start-passes g room .0 (gives .starts) .1)
 
   state-is : after g l room ≡ runAfter g room (started .rows) (recordOf started) room
   state-is = ap₂ (λ (n : ℕ) (rows : List Row). runAfter g n rows (recordOf started) room) (ready-length room) used
@@ -65,7 +65,7 @@ module _ (c : Comparison) (gives : Gives c) (tables : Tables c) where
       ∙ sym (ap (λ (b : Bool). cond b (traceOf (st .rows) (st .settled)) []) (eq-eqb (st .outcome) 2 (outcome ∙ e)))
       ∙ ap (λ (x : Listed). x .trace) shows
 
-  pub means : Meant (c .case) (c .listed)
+  means : Meant (c .case) (c .listed)
   means = record { included = included; refuted = refuted }
     where
       left : (w : List ℕ) → LeftTrace g w ↔ Trace (c .case .s) (c .case .left) (root (c .case .left)) w

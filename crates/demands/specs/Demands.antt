@@ -1,10 +1,9 @@
--- The inspectors' demands, sentence by sentence, of any calls; `Meets` gathers those on runs. Demand 1's "no call does anything
--- undefined or fails to end" is what the check proves of each function; demand 2's sentences on what is read and written again
--- are `sheet`'s `SheetAgain` and `TableAgain`.
+-- The inspectors' demands, sentence by sentence, of any calls: `Meets` gathers those of start, run and trace, `MeetsSheets` those of
+-- reader and writer. Demand 1's "no call does anything undefined or fails to end" is what the check proves of each function.
 use Prim.Native.Nat.{ℕ, _+_, _-_, _*_, _^_, _≤_, _<_}
 use mathlib.Core.Path.{_≡_}
 use mathlib.Core.Logic.{_⊎_, _↔_, _≢_}
-use mathlib.Core.Bool.{false}
+use mathlib.Core.Bool.{true, false}
 use mathlib.Core.List.{List, [], _∷_}
 use lib.ListN.{length, getD, take, drop}
 use Rattle.bits.specs.Bit.{Mem}
@@ -14,12 +13,12 @@ use Rattle.effect.specs.Meaning.{root, Trace}
 use Rattle.effect.specs.Refusals.{instants, front}
 use Rattle.sheet.specs.declared.Reading.{Reading}
 use Rattle.sheet.specs.declared.Writing.{Writing}
-use Rattle.sheet.specs.Sheet.{reading, writing}
-use Rattle.sheet.specs.RoundTrip.{ReadCall, WriteCall}
+use Rattle.sheet.specs.Sheet.{sheetLength, sheetOf, signalsIn, countIn, nodesIn, reading, writing}
+use Rattle.sheet.specs.RoundTrip.{ReadCall, WriteCall, SheetAgain, TableAgain}
 use Rattle.places.specs.Readings.{matching, followers, Leads}
 use Rattle.goals.specs.declared.Row.{Row}
 use Rattle.goals.specs.declared.Run.{Run}
-use Rattle.goals.specs.Goals.{rowZero, bad}
+use Rattle.goals.specs.Goals.{row, rowZero, bad}
 use Rattle.goals.specs.Run.{traceOf}
 use Rattle.goals.specs.Refusals.{Given, leftOf, rightOf, roomOf, against, Reply}
 use Rattle.demands.specs.Calls.{Lent, lent, usedIn, Calls, StartCall, RunCall, TraceCall, Accepted, Refused}
@@ -97,7 +96,7 @@ pub data Chain (calls : Calls) (g : Given) (least : ℕ) : List Row → Run → 
       → Chain calls g least used held sum → take (held .used) rows ≡ used
       → calls .starts other (lent rows held) reply l′ ⊎ calls .runs other (lent rows held) budget reply l′ → Refused reply
       → Chain calls g least (usedIn l′) (l′ .held) sum
-  -- the same on any table, the run's own lying elsewhere: the record is what it left
+  -- a refused start or run call lent the record with any other table: the used rows lie elsewhere, the record is what it left
   strays : {used rows : List Row} {held : Run} {sum budget : ℕ} {other : Given} {reply : Reply} {l′ : Lent}
       → Chain calls g least used held sum
       → calls .starts other (lent rows held) reply l′ ⊎ calls .runs other (lent rows held) budget reply l′ → Refused reply
@@ -114,6 +113,11 @@ Answers calls =
     ((g : Given) (l : Lent) → (reply : Reply) × (l′ : Lent) × calls .starts g l reply l′)
     × ((g : Given) (l : Lent) (budget : ℕ) → (reply : Reply) × (l′ : Lent) × calls .runs g l budget reply l′)
     × ((g : Given) (l : Lent) (out : List ℕ) → (reply : Reply) × (out′ : List ℕ) × calls .traces g l out reply out′)
+
+abbrev pub SheetAnswers : ReadCall → WriteCall → Type 0
+SheetAnswers Reads Writes =
+    ((sheet nodes : List ℕ) → (r : Reading) × (nodes′ : List ℕ) × Reads sheet nodes r nodes′)
+    × ((s : ℕ) (nodes out : List ℕ) → (r : Writing) × (out′ : List ℕ) × Writes s nodes out r out′)
 
 abbrev pub ReadRefuses : ReadCall → Type 0
 ReadRefuses Reads =
@@ -140,9 +144,21 @@ TraceRefuses Traces =
     (g : Given) (l : Lent) (out out′ : List ℕ) (reply : Reply) → Traces g l out reply out′
     → Decides (ofTrace g (length (l .rows)) (usedIn l) (l .held) (length out)) (reply .refusal) × (Refused reply → out′ ≡ out)
 
--- ---- of every state of a chain, and its sum of budgets; of every accepted run call, forged records and changed sides included
-abbrev pub EachState : Calls → (Given → List Row → Run → ℕ → Type 0) → Type 0
-EachState calls P = (g : Given) (least sum : ℕ) (used : List Row) (held : Run) → Chain calls g least used held sum → P g used held sum
+-- what the reader and the writer answer and leave when they do not refuse: "reader and writer leave what lies beyond their result
+-- unchanged"
+abbrev pub ReadTakes : ReadCall → Type 0
+ReadTakes Reads =
+    (sheet nodes nodes′ : List ℕ) (r : Reading) → Reads sheet nodes r nodes′ → reading r .number ≡ 0
+    → (reading r .values ≡ signalsIn sheet ∷ countIn sheet ∷ []) × (nodes′ ≡ front (nodesIn sheet) nodes)
+
+abbrev pub WritePuts : WriteCall → Type 0
+WritePuts Writes =
+    (s : ℕ) (nodes out out′ : List ℕ) (r : Writing) → Writes s nodes out r out′ → writing r .number ≡ 0
+    → (writing r .values ≡ sheetLength (length nodes) ∷ []) × (out′ ≡ front (sheetOf s nodes) out)
+
+-- ---- of every state of a chain; of every accepted run call, forged records and changed sides included
+abbrev pub EachState : Calls → (Given → List Row → Run → Type 0) → Type 0
+EachState calls P = (g : Given) (least sum : ℕ) (used : List Row) (held : Run) → Chain calls g least used held sum → P g used held
 
 abbrev pub EachRun : Calls → (Given → Lent → ℕ → Lent → Type 0) → Type 0
 EachRun calls P =
@@ -150,37 +166,54 @@ EachRun calls P =
 
 -- ---- Demand 2. "'included' comes only if every finite trace of the left is one of the right"
 abbrev pub IncludedOnlyIf : Calls → Type 0
-IncludedOnlyIf calls = EachState calls (λ g used held sum. held .outcome ≡ 1 → (w : List ℕ) → LeftTrace g w → RightTrace g w)
+IncludedOnlyIf calls = EachState calls (λ g used held. held .outcome ≡ 1 → (w : List ℕ) → LeftTrace g w → RightTrace g w)
 
--- "'refuted' only with a trace of the left that the right lacks": the letters from row 0 to the refuted row, and the trace call
--- hands over those very letters
+-- "'refuted' only with a trace of the left that the right lacks": the letters from row 0 to the refuted row,
 abbrev pub RefutedOnlyWith : Calls → Type 0
 RefutedOnlyWith calls =
-    EachState calls (λ g used held sum. held .outcome ≡ 2
-    → let w = traceOf used (held .settled) in
-    LeftTrace g w
-    × (RightTrace g w → ⊥)
-    × ((rows : List Row) (out out′ : List ℕ) (reply : Reply) → take (held .used) rows ≡ used
-    → calls .traces g (lent rows held) out reply out′ → Accepted reply
-    → (reply .values ≡ length w ∷ []) × (out′ ≡ front w out)))
+    EachState calls (λ g used held. held .outcome ≡ 2
+    → LeftTrace g (traceOf used (held .settled)) × (RightTrace g (traceOf used (held .settled)) → ⊥))
 
--- ---- Demand 3. "each settled step closes one goal": a row is settled for each step, and there are no more steps than the budget has;
--- all are taken if the run stays open, and finding a bad row is one of them. A row that is settled is not bad, and each goal that
+-- and any accepted trace call hands over those very letters
+abbrev pub TraceHands : Calls → Type 0
+TraceHands calls =
+    (g : Given) (l : Lent) (out out′ : List ℕ) (reply : Reply) → calls .traces g l out reply out′ → Accepted reply
+    → let w = traceOf (usedIn l) (l .held .settled) in (reply .values ≡ length w ∷ []) × (out′ ≡ front w out)
+
+-- ---- Demand 3. "Start writes row 0 (place 0, set {0}, parent 0, letter 0), settled 0, used 1, outcome 0; the other rows stay."
+abbrev pub StartLeaves : Calls → Type 0
+StartLeaves calls =
+    (g : Given) (l l′ : Lent) (reply : Reply) → calls .starts g l reply l′ → Accepted reply
+    → l′ ≡ lent (front (row 0 1 0 0 ∷ []) (l .rows)) (record { settled = 0; used = 1; outcome = 0 })
+
+-- "each settled step closes one goal": a row is settled for each step, and there are no more steps than the budget has; all are taken
+-- if the run stays open. Finding a bad row is a step, and only that refutes. A row that is settled is not bad, and each goal that
 -- follows it stands in a used row.
-abbrev pub StepsClose : Calls → Type 0
-StepsClose calls =
-    EachRun calls (λ g l budget l′. Undecided (l .held)
-    → (l .held .settled ≤ l′ .held .settled)
-    × (l′ .held .settled ≤ l .held .settled + budget)
-    × (l′ .held .outcome ≡ 0 → l′ .held .settled ≡ l .held .settled + budget)
-    × (l′ .held .outcome ≡ 2 → l′ .held .settled < l .held .settled + budget)
-    × ((i : ℕ) → l .held .settled ≤ i → i < l′ .held .settled
-    → (bad (leftOf g) (rightOf g) (rowOf (usedIn l′) i) ≡ false)
-    × ((x p S : ℕ) → Follows g (rowOf (usedIn l′) i) x p S → Has (usedIn l′) p S)))
+abbrev pub Settles : Given → Lent → ℕ → List Row → Run → Type 0
+Settles g l budget used held =
+    (l .held .settled ≤ held .settled)
+    × (held .settled ≤ l .held .settled + budget)
+    × (held .outcome ≡ 0 → held .settled ≡ l .held .settled + budget)
+    × (held .outcome ≡ 2
+    → (held .settled < l .held .settled + budget) × (bad (leftOf g) (rightOf g) (rowOf used (held .settled)) ≡ true))
+    × ((i : ℕ) → l .held .settled ≤ i → i < held .settled
+    → (bad (leftOf g) (rightOf g) (rowOf used i) ≡ false) × ((x p S : ℕ) → Follows g (rowOf used i) x p S → Has used p S))
 
--- start settles nothing: what a run has settled its budgets paid for
-abbrev pub StepsPaid : Calls → Type 0
-StepsPaid calls = EachState calls (λ g used held sum. held .settled ≤ sum)
+abbrev pub StepsClose : Calls → Type 0
+StepsClose calls = EachRun calls (λ g l budget l′. Undecided (l .held) → Settles g l budget (usedIn l′) (l′ .held))
+
+-- A new row is entered by a step of this call: it follows the row that the step settled, or that found no room.
+abbrev pub Enters : Given → Lent → List Row → Run → Type 0
+Enters g l used held =
+    (i : ℕ) → l .held .used ≤ i → i < held .used
+    → let w = rowOf used i in
+    (l .held .settled ≤ w .parent)
+    × (w .parent ≤ held .settled)
+    × (w .parent ≡ held .settled → held .outcome ≡ 3)
+    × Follows g (rowOf used (w .parent)) (w .letter) (w .place) (w .set)
+
+abbrev pub RowsEntered : Calls → Type 0
+RowsEntered calls = EachRun calls (λ g l budget l′. Enters g l (usedIn l′) (l′ .held))
 
 -- "Outcome 1 or 2, or budget 0, changes nothing."
 abbrev pub Idles : Calls → Type 0
@@ -188,19 +221,22 @@ Idles calls = EachRun calls (λ g l budget l′. (l .held .outcome ≡ 1) ⊎ ((
 
 -- "no goal is entered twice": the used rows of a run are different goals, each reached by the letters that lead to its row;
 abbrev pub GoalsDiffer : Calls → Type 0
-GoalsDiffer calls = EachState calls (λ g used held sum. Differ used)
+GoalsDiffer calls = EachState calls (λ g used held. Differ used)
 
 abbrev pub GoalsReached : Calls → Type 0
 GoalsReached calls =
-    EachState calls (λ g used held sum. (i : ℕ) → i < length used → Reaches g (traceOf used i) (rowOf used i .place) (rowOf used i .set))
+    EachState calls (λ g used held. (i : ℕ) → i < length used → Reaches g (traceOf used i) (rowOf used i .place) (rowOf used i .set))
 
 -- and a run call leaves the rows used before it in use, uses no more than the room, and leaves those beyond as they were
-abbrev pub RowsStay : Calls → Type 0
-RowsStay calls =
-    EachRun calls (λ g l budget l′.
+abbrev pub Stays : Lent → Lent → Type 0
+Stays l l′ =
     (take (l .held .used) (usedIn l′) ≡ usedIn l)
     × (l′ .held .used ≤ roomOf (length (l .rows)))
-    × (drop (l′ .held .used) (l′ .rows) ≡ drop (l′ .held .used) (l .rows)))
+    × (length (l′ .rows) ≡ length (l .rows))
+    × (drop (l′ .held .used) (l′ .rows) ≡ drop (l′ .held .used) (l .rows))
+
+abbrev pub RowsStay : Calls → Type 0
+RowsStay calls = EachRun calls (λ g l budget l′. Stays l l′)
 
 -- "With m instants on the left, k on the right and room in every call for 1 + m × 2^k rows, that number being at most 65,535, the
 -- run never lacks room and has its verdict once the budgets of its accepted calls add up to that many steps, however divided."
@@ -223,7 +259,7 @@ Divided calls =
 -- and no other, once
 abbrev pub CountsReached : Calls → Type 0
 CountsReached calls =
-    EachState calls (λ g used held sum. held .outcome ≡ 1
+    EachState calls (λ g used held. held .outcome ≡ 1
     → (goals : List Row)
     × (length goals ≡ held .settled)
     × Differ goals
@@ -231,28 +267,30 @@ CountsReached calls =
 
 -- "Any run stops for room exactly when its next new goal finds the run's room used up": a row and a step are left, the row is not bad,
 -- the used rows fill the room, and a goal that follows it stands in none of them
+abbrev pub Lacks : Given → Lent → ℕ → List Row → Run → Type 0
+Lacks g l budget used held =
+    (held .settled < held .used)
+    × (held .settled - l .held .settled < budget)
+    × (bad (leftOf g) (rightOf g) (rowOf used (held .settled)) ≡ false)
+    × (held .used ≡ roomOf (length (l .rows)))
+    × ((x : ℕ) × (p : ℕ) × (S : ℕ) × Follows g (rowOf used (held .settled)) x p S × (Has used p S → ⊥))
+
 abbrev pub NoRoom : Calls → Type 0
 NoRoom calls =
-    EachRun calls (λ g l budget l′. Undecided (l .held) → 1 ≤ budget
-    → (l′ .held .outcome ≡ 3)
-    ↔ ((l′ .held .settled < l′ .held .used)
-    × (l′ .held .settled - l .held .settled < budget)
-    × (bad (leftOf g) (rightOf g) (rowOf (usedIn l′) (l′ .held .settled)) ≡ false)
-    × (l′ .held .used ≡ roomOf (length (l .rows)))
-    × ((x : ℕ) × (p : ℕ) × (S : ℕ) × Follows g (rowOf (usedIn l′) (l′ .held .settled)) x p S × (Has (usedIn l′) p S → ⊥))))
+    EachRun calls (λ g l budget l′. Undecided (l .held) → 1 ≤ budget → (l′ .held .outcome ≡ 3) ↔ Lacks g l budget (usedIn l′) (l′ .held))
 
--- ---- None of this is vacuous. On a table that agrees with its used rows as far as it goes, a run goes on exactly where they fit the
--- room;
+-- ---- None of this is vacuous. A run call on a table that begins with the used rows (or, if it is shorter, is the first of them) is
+-- accepted exactly when the used rows fit the room;
 abbrev pub RunAccepted : Calls → Type 0
 RunAccepted calls =
-    EachState calls (λ g used held sum. (rows : List Row) (budget : ℕ) (reply : Reply) (l′ : Lent)
+    EachState calls (λ g used held. (rows : List Row) (budget : ℕ) (reply : Reply) (l′ : Lent)
     → take (held .used) rows ≡ take (length rows) used → calls .runs g (lent rows held) budget reply l′
     → Accepted reply ↔ (held .used ≤ roomOf (length rows)))
 
--- a refuted one hands over its trace exactly where they do and the buffer is as long as the trace;
+-- a trace call of a refuted run exactly when they do and the buffer is as long as the trace;
 abbrev pub TraceAccepted : Calls → Type 0
 TraceAccepted calls =
-    EachState calls (λ g used held sum. held .outcome ≡ 2 → (rows : List Row) (out out′ : List ℕ) (reply : Reply)
+    EachState calls (λ g used held. held .outcome ≡ 2 → (rows : List Row) (out out′ : List ℕ) (reply : Reply)
     → take (held .used) rows ≡ take (length rows) used → calls .traces g (lent rows held) out reply out′
     → Accepted reply ↔ ((held .used ≤ roomOf (length rows)) × (length (traceOf used (held .settled)) ≤ length out)))
 
@@ -272,9 +310,11 @@ pub record Meets (calls : Calls) : Type 0 where
   -- 2
   pub included : IncludedOnlyIf calls
   pub refuted : RefutedOnlyWith calls
+  pub hands : TraceHands calls
   -- 3
+  pub start : StartLeaves calls
   pub steps : StepsClose calls
-  pub paid : StepsPaid calls
+  pub entered : RowsEntered calls
   pub idles : Idles calls
   pub differ : GoalsDiffer calls
   pub reached : GoalsReached calls
@@ -284,6 +324,19 @@ pub record Meets (calls : Calls) : Type 0 where
   pub counts : CountsReached calls
   pub room : NoRoom calls
   -- not vacuous
-  pub runs-on : RunAccepted calls
-  pub hands-over : TraceAccepted calls
+  pub goes-on : RunAccepted calls
+  pub shows : TraceAccepted calls
   pub ends : BudgetEnds calls
+
+-- and of reader and writer: "An accepted sheet read and written again is the same sheet; an accepted node table written and read
+-- again is the same table."
+pub record MeetsSheets (Reads : ReadCall) (Writes : WriteCall) : Type 0 where
+  -- 1
+  pub answers : SheetAnswers Reads Writes
+  pub read-refuses : ReadRefuses Reads
+  pub write-refuses : WriteRefuses Writes
+  -- 2
+  pub takes : ReadTakes Reads
+  pub puts : WritePuts Writes
+  pub sheet-again : SheetAgain Reads Writes
+  pub table-again : TableAgain Reads Writes

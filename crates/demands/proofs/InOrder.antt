@@ -29,13 +29,13 @@ answer-decides (r ∷ rest) = by (r .applies) refl (answer-decides rest)
 
 -- ---- What rows give, whatever follows them. A number 0 is none, whichever side stands beside it, and leaves the answer to the rest;
 -- so no law on one list after another asks that a row's number is not 0.
-pub record Gives (rules : List Rule) (a : Against) : Type 0 where
+pub record Says (rules : List Rule) (a : Against) : Type 0 where
   pub before : (rest : List Rule) → answer (rules ++ rest) ≡ cond (eqb (a .number) 0) (answer rest) a
 
-pub gives-none : {side : ℕ} → Gives [] (against side 0)
+pub gives-none : {side : ℕ} → Says [] (against side 0)
 gives-none = record { before = λ rest. refl }
 
-gives-append : {xs ys : List Rule} {a b : Against} → Gives xs a → Gives ys b → Gives (xs ++ ys) (cond (eqb (a .number) 0) b a)
+gives-append : {xs ys : List Rule} {a b : Against} → Says xs a → Says ys b → Says (xs ++ ys) (cond (eqb (a .number) 0) b a)
 gives-append {xs} {ys} {a} {b} p q = record { before = λ rest. rw append-assoc (p .before (ys ++ rest) ∙ by rest (eqb (a .number) 0) refl) }
   where
     by : (rest : List Rule) (t : Bool) → eqb (a .number) 0 ≡ t
@@ -44,47 +44,47 @@ gives-append {xs} {ys} {a} {b} p q = record { before = λ rest. rw append-assoc 
     by rest false e = rw e
 
 -- of refusals that name a side, as `first` says
-pub gives-first : {xs ys : List Rule} {a : Against} (more : List Against) → Gives xs a → Gives ys (first more) → Gives (xs ++ ys) (first (a ∷ more))
+pub gives-first : {xs ys : List Rule} {a : Against} (more : List Against) → Says xs a → Says ys (first more) → Says (xs ++ ys) (first (a ∷ more))
 unfolding first
 gives-first more = gives-append
 
 -- of numbers on one side, as `lowest` and `lowestNode` say
-pub gives-number : {side m n : ℕ} {xs ys : List Rule} → Gives xs (against side m) → Gives ys (against side n) → Gives (xs ++ ys) (against side (cond (eqb m 0) n m))
-gives-number {side} {m} {n} {xs} {ys} p q = subst (Gives (xs ++ ys)) (by (eqb m 0)) (gives-append p q)
+pub gives-number : {side m n : ℕ} {xs ys : List Rule} → Says xs (against side m) → Says ys (against side n) → Says (xs ++ ys) (against side (cond (eqb m 0) n m))
+gives-number {side} {m} {n} {xs} {ys} p q = subst (Says (xs ++ ys)) (by (eqb m 0)) (gives-append p q)
   where
     by : (t : Bool) → cond t (against side n) (against side m) ≡ against side (cond t n m)
     by true = refl
     by false = refl
 
-pub gives-lowest : {side m : ℕ} {xs ys : List Rule} (ns : List ℕ) → Gives xs (against side m) → Gives ys (against side (lowest ns)) → Gives (xs ++ ys) (against side (lowest (m ∷ ns)))
+pub gives-lowest : {side m : ℕ} {xs ys : List Rule} (ns : List ℕ) → Says xs (against side m) → Says ys (against side (lowest ns)) → Says (xs ++ ys) (against side (lowest (m ∷ ns)))
 unfolding lowest
 gives-lowest ns = gives-number
 
-pub gives-end : {side : ℕ} → Gives [] (against side (lowest []))
+pub gives-end : {side : ℕ} → Says [] (against side (lowest []))
 unfolding lowest
 gives-end = gives-none
 
-pub gives-last : {side m : ℕ} {xs : List Rule} → Gives xs (against side m) → Gives xs (against side (lowest (m ∷ [])))
+pub gives-last : {side m : ℕ} {xs : List Rule} → Says xs (against side m) → Says xs (against side (lowest (m ∷ [])))
 gives-last p = rw lowest-one p
 
 -- a single row, and a row before others
-gives-one : (side k : ℕ) (b : Bool) → Gives (when side (suc k) b ∷ []) (against side (rule (suc k) b))
+gives-one : (side k : ℕ) (b : Bool) → Says (when side (suc k) b ∷ []) (against side (rule (suc k) b))
 unfolding answer
 gives-one side k true = record { before = λ rest. rw (ne-eqb (suc k) 0 (λ e. omega (arith, e))) }
 gives-one side k false = record { before = λ rest. refl }
 
-pub gives-row : {side : ℕ} {ys : List Rule} (k : ℕ) (b : Bool) (ns : List ℕ) → Gives ys (against side (lowest ns)) → Gives (when side (suc k) b ∷ ys) (against side (lowest (rule (suc k) b ∷ ns)))
+pub gives-row : {side : ℕ} {ys : List Rule} (k : ℕ) (b : Bool) (ns : List ℕ) → Says ys (against side (lowest ns)) → Says (when side (suc k) b ∷ ys) (against side (lowest (rule (suc k) b ∷ ns)))
 gives-row {side} k b ns q = gives-lowest ns (gives-one side k b) q
 
-pub gives-against : {side : ℕ} {ys : List Rule} (k : ℕ) (b : Bool) (more : List Against) → Gives ys (first more) → Gives (when side (suc k) b ∷ ys) (first (against side (rule (suc k) b) ∷ more))
+pub gives-against : {side : ℕ} {ys : List Rule} (k : ℕ) (b : Bool) (more : List Against) → Says ys (first more) → Says (when side (suc k) b ∷ ys) (first (against side (rule (suc k) b) ∷ more))
 gives-against {side} k b more q = gives-first more (gives-one side k b) q
 
-pub gives-nothing : Gives [] (first [])
+pub gives-nothing : Says [] (first [])
 unfolding first
 gives-nothing = gives-none
 
 -- ---- with nothing after them the rows decide
-gives-decides : {rules : List Rule} {a : Against} → Gives rules a → cond (eqb (a .number) 0) (against 0 0) a ≡ a → Decides rules a
+gives-decides : {rules : List Rule} {a : Against} → Says rules a → cond (eqb (a .number) 0) (against 0 0) a ≡ a → Decides rules a
 unfolding answer
 gives-decides {rules} {a} p e = subst (Decides rules) (ap answer (sym (append-nil rules)) ∙ p .before [] ∙ e) (answer-decides rules)
 
@@ -99,10 +99,10 @@ first-whole (r ∷ rs) = by (eqb (r .number) 0) refl (first-whole rs)
     by true e rest = rest
     by false e rest = rw e
 
-pub first-decides : {rules : List Rule} (rs : List Against) → Gives rules (first rs) → Decides rules (first rs)
+pub first-decides : {rules : List Rule} (rs : List Against) → Says rules (first rs) → Decides rules (first rs)
 first-decides rs p = gives-decides p (first-whole rs)
 
-pub number-decides : {rules : List Rule} {n : ℕ} → Gives rules (against 0 n) → Decides rules (against 0 n)
+pub number-decides : {rules : List Rule} {n : ℕ} → Says rules (against 0 n) → Decides rules (against 0 n)
 number-decides {rules} {n} p = gives-decides p (by (eqb n 0) refl)
   where
     by : (t : Bool) → eqb n 0 ≡ t → cond t (against 0 0) (against 0 n) ≡ against 0 n
