@@ -1,0 +1,149 @@
+// The calls as a caller makes them, on a lent table of rows and a lent record: thin functions above the calls on columns. The used
+// rows are loaded into columns, the core is called, and the rows that are then used are stored again at the front of the table.
+use columns::Called;
+use columns::Tracing;
+use columns::run_on;
+use columns::start_on;
+use columns::trace_on;
+use goals::Row;
+use goals::Run;
+use goals::SideRefusal;
+ghost use mathlib.Core.Path.{_≡_};
+ghost use Prim.Native.Nat.{_≤_, min};
+ghost use lib.ListN.{length, take};
+ghost use Rattle.effect.specs.Refusals.{front};
+ghost use Rattle.goals.specs.Refusals.{given, roomOf};
+ghost use Rattle.columns.specs.Calls.{columns, rowsIn, put};
+ghost use Rattle.demands.specs.Calls.{lent, Starts, Runs, Traces};
+ghost use Rattle.compare.specs.Calls.{answered, nextOf, StartsOn, RunsOn};
+
+// What start and run answer: accepted, or the refusal. The record tells the rest.
+pub enum Answered {
+    Accepted,
+    Refused(SideRefusal),
+}
+
+// What a call on columns leaves for the rows: the record, how many rows of the columns are to be stored, and the answer.
+struct Next {
+    run: Run,
+    rows: usize,
+    answer: Answered,
+}
+
+// How many rows are loaded: those that the record says are used, and no more than the room has.
+fn used_within(used: u32, lent: usize) -> usize
+    ensures { λ r. ⌜ r ≡ min (roomOf lent) used ⌝ }
+{
+    let room = goals::room_of(lent);
+    let n = used as usize;
+    if n < room { n } else { room }
+}
+
+// What a call on columns answered, for the rows. A refusal stores none.
+fn next_of(called: Called, held: Run) -> Next
+    ensures { λ r. ⌜ r ≡ nextOf called held ⌝ }
+{
+    match called {
+        Called::Accepted(run) => Next {
+            run: run,
+            rows: run.used as usize,
+            answer: Answered::Accepted,
+        },
+        Called::Refused(why) => Next {
+            run: held,
+            rows: 0,
+            answer: Answered::Refused(why),
+        },
+    }
+}
+
+// The start call on columns.
+fn start_columns(
+    ls: u8,
+    left: &[u32],
+    rs: u8,
+    right: &[u32],
+    lent: usize,
+    places: &mut [u8],
+    sets: &mut [u64],
+    parents: &mut [u16],
+    letters: &mut [u16],
+    held: Run,
+) -> Next
+    ensures { λ r. ⌜ StartsOn (given ls (now (left .entry)) rs (now (right .entry))) lent (columns (now (places .entry)) (now (sets .entry)) (now (parents .entry)) (now (letters .entry))) held r (columns (now (places .exit)) (now (sets .exit)) (now (parents .exit)) (now (letters .exit))) ⌝ }
+{
+    let called = start_on(ls, left, rs, right, lent, places, sets, parents, letters);
+    next_of(called, held)
+}
+
+// The run call on columns.
+fn run_columns(
+    ls: u8,
+    left: &[u32],
+    rs: u8,
+    right: &[u32],
+    lent: usize,
+    places: &mut [u8],
+    sets: &mut [u64],
+    parents: &mut [u16],
+    letters: &mut [u16],
+    held: Run,
+    budget: u64,
+) -> Next
+    ensures { λ r. ⌜ RunsOn (given ls (now (left .entry)) rs (now (right .entry))) lent (columns (now (places .entry)) (now (sets .entry)) (now (parents .entry)) (now (letters .entry))) held budget r (columns (now (places .exit)) (now (sets .exit)) (now (parents .exit)) (now (letters .exit))) ⌝ }
+{
+    let called = run_on(
+        ls,
+        left,
+        rs,
+        right,
+        lent,
+        places,
+        sets,
+        parents,
+        letters,
+        held,
+        budget,
+    );
+    next_of(called, held)
+}
+
+// The first n rows into the columns.
+fn load(
+    rows: &[Row],
+    n: usize,
+    places: &mut [u8],
+    sets: &mut [u64],
+    parents: &mut [u16],
+    letters: &mut [u16],
+)
+    requires { ⌜ (n ≤ length (now rows)) × (n ≤ length (now places)) × (n ≤ length (now sets)) × (n ≤ length (now parents)) × (n ≤ length (now letters)) ⌝ }
+    ensures { λ _. ⌜ columns (now (places .exit)) (now (sets .exit)) (now (parents .exit)) (now (letters .exit)) ≡ put (take n (now (rows .entry))) (columns (now (places .entry)) (now (sets .entry)) (now (parents .entry)) (now (letters .entry))) ⌝ }
+{
+    let mut i: usize = 0;
+    while i < n {
+        let r = rows[i];
+        places[i] = r.place;
+        sets[i] = r.set;
+        parents[i] = r.parent;
+        letters[i] = r.letter;
+        i += 1;
+    }
+}
+
+// The first n rows of the columns at the front of the rows.
+fn store(rows: &mut [Row], n: usize, places: &[u8], sets: &[u64], parents: &[u16], letters: &[u16])
+    requires { ⌜ (n ≤ length (now rows)) × (n ≤ length (now places)) × (n ≤ length (now sets)) × (n ≤ length (now parents)) × (n ≤ length (now letters)) ⌝ }
+    ensures { λ _. ⌜ now (rows .exit) ≡ front (rowsIn (columns (now (places .entry)) (now (sets .entry)) (now (parents .entry)) (now (letters .entry))) n) (now (rows .entry)) ⌝ }
+{
+    let mut i: usize = 0;
+    while i < n {
+        rows[i] = Row {
+            set: sets[i],
+            parent: parents[i],
+            letter: letters[i],
+            place: places[i],
+        };
+        i += 1;
+    }
+}
