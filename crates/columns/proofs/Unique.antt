@@ -35,7 +35,7 @@ side-one Both Left e = absurd (omega (arith, e))
 side-one Both Right e = absurd (omega (arith, e))
 side-one Both Both e = refl
 
-refusal-one : (a b : SideRefusal) → againstOf a ≡ againstOf b → a ≡ b
+pub refusal-one : (a b : SideRefusal) → againstOf a ≡ againstOf b → a ≡ b
 refusal-one a b e = λ i. record { side = side-one (a .side) (b .side) (ap (λ (n : Against). n .side) e) i; refusal = record { number = ap (λ (n : Against). n .number) e i } }
 
 pub called-one : (r r′ : Called) → called r ≡ called r′ → r ≡ r′
@@ -52,7 +52,7 @@ tracing-one (tracing-variants.Accepted n) (tracing-variants.Refused w) e = diffe
 tracing-one (tracing-variants.Refused w) (tracing-variants.Accepted n) e = differ e (λ h. omega (arith, h))
 tracing-one (tracing-variants.Refused w) (tracing-variants.Refused w′) e = ap tracing-variants.Refused (refusal-one w w′ (ap (λ (t : Reply). t .refusal) e))
 
-left-one : {Lent : Type 0} {a b : Leaves Lent} → a ≡ b → (a .reply ≡ b .reply) × (a .lent ≡ b .lent)
+pub left-one : {Lent : Type 0} {a b : Leaves Lent} → a ≡ b → (a .reply ≡ b .reply) × (a .lent ≡ b .lent)
 left-one {Lent} e = (ap (λ (t : Leaves Lent). t .reply) e, ap (λ (t : Leaves Lent). t .lent) e)
 
 pub start-one : (g : Given) (lent : ℕ) (c d d′ : Columns) (r r′ : Called) → Starts g lent c r d → Starts g lent c r′ d′ → (r ≡ r′) × (d ≡ d′)

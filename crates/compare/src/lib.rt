@@ -147,3 +147,36 @@ fn store(rows: &mut [Row], n: usize, places: &[u8], sets: &[u64], parents: &[u16
         i += 1;
     }
 }
+
+// Begins a run: writes row 0 and the record.
+pub fn start(
+    ls: u8,
+    left: &[u32],
+    rs: u8,
+    right: &[u32],
+    rows: &mut [Row],
+    held: &mut Run,
+) -> Answered
+    ensures { λ r. ⌜ Starts (given ls (now (left .entry)) rs (now (right .entry))) (lent (now (rows .entry)) (now (held .entry))) (answered r) (lent (now (rows .exit)) (now (held .exit))) ⌝ }
+{
+    let mut places: [u8; 1] = [0; 1];
+    let mut sets: [u64; 1] = [0; 1];
+    let mut parents: [u16; 1] = [0; 1];
+    let mut letters: [u16; 1] = [0; 1];
+    let count = rows.len();
+    let next = start_columns(
+        ls,
+        left,
+        rs,
+        right,
+        count,
+        &mut places,
+        &mut sets,
+        &mut parents,
+        &mut letters,
+        *held,
+    );
+    store(rows, next.rows, &places, &sets, &parents, &letters);
+    *held = next.run;
+    next.answer
+}
