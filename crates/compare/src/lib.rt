@@ -13,7 +13,7 @@ ghost use Prim.Native.Nat.{_≤_, min};
 ghost use lib.ListN.{length, take};
 ghost use Rattle.effect.specs.Refusals.{front};
 ghost use Rattle.goals.specs.Refusals.{given, roomOf};
-ghost use Rattle.columns.specs.Calls.{columns, rowsIn, put};
+ghost use Rattle.columns.specs.Calls.{columns, rowsIn, put, tracing};
 ghost use Rattle.demands.specs.Calls.{lent, Starts, Runs, Traces};
 ghost use Rattle.compare.specs.Calls.{answered, nextOf, StartsOn, RunsOn};
 
@@ -179,4 +179,38 @@ pub fn start(
     store(rows, next.rows, &places, &sets, &parents, &letters);
     *held = next.run;
     next.answer
+}
+
+// Writes the letters from row 0 to the refuted row, and answers how many.
+pub fn trace(
+    ls: u8,
+    left: &[u32],
+    rs: u8,
+    right: &[u32],
+    rows: &[Row],
+    held: &Run,
+    out: &mut [u8],
+) -> Tracing
+    ensures { λ r. ⌜ Traces (given ls (now (left .entry)) rs (now (right .entry))) (lent (now (rows .entry)) (now (held .entry))) (now (out .entry)) (tracing r) (now (out .exit)) ⌝ }
+{
+    let mut places: [u8; 65535] = [0; 65535];
+    let mut sets: [u64; 65535] = [0; 65535];
+    let mut parents: [u16; 65535] = [0; 65535];
+    let mut letters: [u16; 65535] = [0; 65535];
+    let count = rows.len();
+    let n = used_within(held.used, count);
+    load(rows, n, &mut places, &mut sets, &mut parents, &mut letters);
+    trace_on(
+        ls,
+        left,
+        rs,
+        right,
+        count,
+        &places,
+        &sets,
+        &parents,
+        &letters,
+        *held,
+        out,
+    )
 }
