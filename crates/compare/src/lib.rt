@@ -181,6 +181,44 @@ pub fn start(
     next.answer
 }
 
+// Goes on with a run for at most `budget` steps.
+pub fn run(
+    ls: u8,
+    left: &[u32],
+    rs: u8,
+    right: &[u32],
+    rows: &mut [Row],
+    held: &mut Run,
+    budget: u64,
+) -> Answered
+    ensures { λ r. ⌜ Runs (given ls (now (left .entry)) rs (now (right .entry))) (lent (now (rows .entry)) (now (held .entry))) budget (answered r) (lent (now (rows .exit)) (now (held .exit))) ⌝ }
+{
+    let mut places: [u8; 65535] = [0; 65535];
+    let mut sets: [u64; 65535] = [0; 65535];
+    let mut parents: [u16; 65535] = [0; 65535];
+    let mut letters: [u16; 65535] = [0; 65535];
+    let count = rows.len();
+    let before = *held;
+    let n = used_within(before.used, count);
+    load(rows, n, &mut places, &mut sets, &mut parents, &mut letters);
+    let next = run_columns(
+        ls,
+        left,
+        rs,
+        right,
+        count,
+        &mut places,
+        &mut sets,
+        &mut parents,
+        &mut letters,
+        before,
+        budget,
+    );
+    store(rows, next.rows, &places, &sets, &parents, &letters);
+    *held = next.run;
+    next.answer
+}
+
 // Writes the letters from row 0 to the refuted row, and answers how many.
 pub fn trace(
     ls: u8,
