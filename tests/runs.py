@@ -13,6 +13,9 @@ print is made here and never taken from the program.
     runs.py random SEED COUNT INPUT EXPECTED   COUNT random records, the same for the same SEED
     runs.py verdicts SEED COUNT                no vectors: COUNT random pairs, run to the verdict
 
+With `rows` before the other words every call is made on a table of rows and not on columns; what must
+be printed is the same.
+
 A record is a line of hexadecimal digits (numbers big-endian, white space ignored): the sides, what
 is lent, and the calls, which are made one after the other on the same columns and the same run record.
 
@@ -29,6 +32,9 @@ each column is. Each call is four numbers of eight digits:
     05000000 FROM TO 0              no call: the rows from FROM on, below TO, become what the row before is
     06000000 LENT(16) 0             no call: from here on so many rows are lent
     07000000 FROM TO 0              no call: shows the rows from FROM on, below TO
+
+Start, run and trace are made on the columns; with 08, 09 and 0a for 00, 01 and 02 they are made on a
+table of rows, which has what is lent in every column and no more than 65,536 rows.
 
 A row that nothing wrote is place ee, set eeeeeeeeeeeeeeee, parent and letter eeee; the record is all
 zeros. A line that begins with '#' names what follows; the program prints it as it is.
@@ -341,6 +347,7 @@ class Record:
         ls, left, rs, right = self.sides = sides
         assert max(lengths) <= LONGEST_COLUMN and max(len(left), len(right)) <= sheets.LONGEST_TABLE
         self.vectors, self.lent, self.rows, self.state = vectors, lent, Rows(lengths), Run()
+        self.on_rows = vectors.on_rows
         self.by_start = False  # no row or state forged since the last start
         self.given = '%02x%02x%04x %08x %016x ' % (ls, rs, len(left), len(right), lent)
         self.given += ''.join('%08x' % x for x in [*lengths, *left, *right])
@@ -354,6 +361,13 @@ class Record:
     def no_call(self, head, *numbers):
         self.given += ' ' + head + ''.join('%08x' % x for x in numbers).ljust(24, '0')
         return self
+
+    def by(self, columns_or_rows):
+        self.on_rows = columns_or_rows == 'rows' or self.vectors.on_rows
+        return self
+
+    def head(self, kind):
+        return '%02x' % (kind + 8 if self.on_rows else kind)
 
     def call(self, name, expect, function, *more):
         """The words for what the call answers by the rules above."""
@@ -369,13 +383,13 @@ class Record:
         return '%s %s' % (name, words)
 
     def start(self, expect=None):
-        self.no_call('00000000')
+        self.no_call(self.head(0) + '000000')
         self.printed.append(self.call('start', expect, start))
         self.by_start = self.by_start or 'refused' not in self.printed[-1]
         return self
 
     def run(self, budget, expect=None):
-        self.no_call('01000000', budget // 2 ** 32, budget % 2 ** 32)
+        self.no_call(self.head(1) + '000000', budget // 2 ** 32, budget % 2 ** 32)
         self.printed.append(self.call('run', expect, run_steps, budget))
         if self.by_start and 'refused' not in self.printed[-1]:
             hold_to_derivatives(comparison(*self.sides), self.rows, self.state)
@@ -383,7 +397,7 @@ class Record:
 
     def trace(self, length, expect=None):
         assert length <= LONGEST_TRACE
-        self.no_call('0200%04x' % length)
+        self.no_call(self.head(2) + '00%04x' % length)
         out = bytearray(b'\xee' * length)
         self.printed.append(self.call('trace', expect, trace, out) + ' out' + ''.join(' %02x' % byte for byte in out))
         return self
@@ -416,6 +430,8 @@ class Record:
 
 
 class Vectors(sheets.Vectors):
+    on_rows = False  # every call is made on a table of rows
+
     def __init__(self):
         super().__init__()
         self.clauses = set()  # of refusal 16, that a vector forged
@@ -423,10 +439,13 @@ class Vectors(sheets.Vectors):
     def record(self, sides, lengths, lent=EVERY):
         return Record(self, sides, lengths, lent)
 
-    def started(self, pair, lengths, lent=EVERY):
+    def pair(self, pair, lengths, lent=EVERY):
         """A pair is s, the left and the right, or one of document 01's by its name."""
         s, left, right = PAIRS.get(pair, pair) if isinstance(pair, str) else pair
-        return self.record((s, left, s, right), lengths, lent).start(STARTED)
+        return self.record((s, left, s, right), lengths, lent)
+
+    def started(self, pair, lengths, lent=EVERY):
+        return self.pair(pair, lengths, lent).start(STARTED)
 
 
 # ---- the named vectors. D is signal 0, M signal 1; a bar is written ~
@@ -558,6 +577,26 @@ def lent_rows(v):
     v.started('C6', [5, 3, 4, 6], lent=4).run(9, (3, 3, INCLUDED)).show(0, 6).save()
 
 
+def tables_of_rows(v):
+    """A table may be another in each call, as long as it begins with the used rows."""
+    v.title('on rows: a table that grows from call to call')
+    (v.pair('C9', 7, lent=1).by('rows').start(STARTED).run(9, (0, 1, NO_ROOM)).show(0, 7).lend(2).run(9, (1, 2, NO_ROOM)).show(0, 7)
+     .lend(7).run(9, (2, 3, REFUTED)).trace(4, [1, 0]).show(0, 7).save())
+    v.title('on rows: a table that has more rows than are used, then exactly those, then one less')
+    (v.pair('C6', 8).by('rows').start(STARTED).run(1, (1, 3, 0)).lend(3).run(1, (2, 3, 0))
+     .show(0, 8).lend(2).run(1, 16).lend(3).run(1, (3, 3, INCLUDED)).show(0, 8).save())
+    v.title('on rows: a table of no rows')
+    v.record((1, [D], 1, [D]), 3, lent=0).by('rows').start(15).run(1, 16).trace(1, 16).show(0, 3).save()
+    v.title('on rows: 65,536 rows lent, the last of which is beyond the room')
+    v.record((1, [ANY], 1, [D]), 65536).by('rows').start(STARTED).run(9, (1, 3, REFUTED)).trace(1, [0]).show(0, 4).show(65534, 65536).save()
+    v.title('on columns and on rows by turns')
+    (v.started('C9', 5).by('rows').run(1, (1, 2, 0)).by('columns').run(1, (2, 3, 0)).by('rows').run(1, (2, 3, REFUTED))
+     .by('columns').trace(2, [1, 0]).by('rows').trace(2, [1, 0]).start(STARTED).by('columns').run(9, (2, 3, REFUTED)).show(0, 5).save())
+    v.title('on rows: a refused call leaves the rows and the record')
+    (v.started('C9', 5).by('rows').run(1, (1, 2, 0)).forge(1, 9, 0).run(5, 16).by('columns').run(5, 16).forge(1, 2, 0)
+     .by('rows').run(9, (2, 3, REFUTED)).show(0, 5).save())
+
+
 def traces(v):
     for name, word in ('C5', [0]), ('C9', [1, 0]), ('C2', []), ('C10', []):
         v.title('%s: a trace buffer exact, longer, one short; the trace changes nothing else' % name)
@@ -580,10 +619,10 @@ def traces(v):
 
 def named():
     v = Vectors()
-    for section in (comparisons, budgets, nothing_changes, no_room, order, lent_rows, traces):
+    for section in (comparisons, budgets, nothing_changes, no_room, order, lent_rows, tables_of_rows, traces):
         section(v)
     v.title('a call that is none')
-    r = v.started('C1', 1).no_call('08000000').no_call('0200%04x' % (LONGEST_TRACE + 1))
+    r = v.started('C1', 1).no_call('0b000000').no_call('0200%04x' % (LONGEST_TRACE + 1))
     r.printed += ['bad call'] * 2
     r.run(1, (1, 1, INCLUDED)).save()
     v.title('a record that says more than it has ends the run')
@@ -991,6 +1030,8 @@ def verdicts(seed, count):
 
 
 def main(words):
+    if words[:1] == ['rows']:
+        Vectors.on_rows, words = True, words[1:]
     makers = {'named': named, 'more': more, 'large': large}
     if len(words) == 3 and words[0] in makers:
         makers[words[0]]().save(*words[1:])

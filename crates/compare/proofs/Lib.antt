@@ -5,4 +5,5 @@ pub mod Lent
 pub mod Calling
 pub mod Callees
 pub mod Loading
+pub mod Tabling
 pub mod Unique

@@ -1,16 +1,20 @@
 -- What the calls on rows answer, and what the calls on columns leave for them.
-use Prim.Native.Nat.{ℕ}
+use Prim.Native.Nat.{ℕ, min}
 use mathlib.Core.Path.{_≡_}
-use mathlib.Core.List.{[]}
+use mathlib.Core.List.{List, []}
+use Rattle.goals.specs.declared.Row.{Row}
 use Rattle.goals.specs.declared.Run.{Run}
 use Rattle.goals.specs.Refusals.{Given, against, againstOf, Reply}
 use Rattle.columns.specs.declared.Called.{Called}
 use Rattle.columns.specs.declared.Called.the-variants as called-variants
+use Rattle.columns.specs.declared.Tracing.{Tracing}
 use Rattle.columns.specs.Calls as core
-use Rattle.columns.specs.Calls.{Columns}
+use Rattle.columns.specs.Calls.{Columns, lentIn, rowsIn, put, tracing}
+use Rattle.demands.specs.Calls.{lent, Starts, Runs, Traces}
 use Rattle.compare.specs.declared.Answered.{Answered}
 use Rattle.compare.specs.declared.Answered.the-variants as answered-variants
 use Rattle.compare.specs.declared.Next.{Next}
+use Rattle.compare.specs.declared.Told.{Told}
 
 -- the number of each case of what start and run answer, with no values: the record tells them
 unfoldable pub answered : Answered → Reply
@@ -28,3 +32,18 @@ StartsOn g lent c held r c′ = (answer : Called) × core.Starts g lent c answer
 
 abbrev pub RunsOn : Given → ℕ → Columns → Run → ℕ → Next → Columns → Type 0
 RunsOn g lent c held budget r c′ = (answer : Called) × core.Runs g lent c held budget answer c′ × (r ≡ nextOf answer held)
+
+-- A table of its own that a call on columns makes: the rows lent in the columns, and no more than 65,536.
+abbrev pub tableIn : ℕ → Columns → List Row
+tableIn n c = rowsIn c (min 65536 (lentIn n c))
+
+-- the calls on such a table: what is told is what the call on its rows and the record answers and leaves, and the rows that it leaves are
+-- at the front of the columns, "the other rows stay"
+abbrev pub StartsTable : Given → ℕ → Columns → Run → Told → Columns → Type 0
+StartsTable g n c held r c′ = (rows′ : List Row) × Starts g (lent (tableIn n c) held) (answered (r .answer)) (lent rows′ (r .run)) × (c′ ≡ put rows′ c)
+
+abbrev pub RunsTable : Given → ℕ → Columns → Run → ℕ → Told → Columns → Type 0
+RunsTable g n c held budget r c′ = (rows′ : List Row) × Runs g (lent (tableIn n c) held) budget (answered (r .answer)) (lent rows′ (r .run)) × (c′ ≡ put rows′ c)
+
+abbrev pub TracesTable : Given → ℕ → Columns → Run → List ℕ → Tracing → List ℕ → Type 0
+TracesTable g n c held out r out′ = Traces g (lent (tableIn n c) held) out (tracing r) out′

@@ -15,7 +15,7 @@ ghost use Rattle.effect.specs.Refusals.{front};
 ghost use Rattle.goals.specs.Refusals.{given, roomOf};
 ghost use Rattle.columns.specs.Calls.{columns, rowsIn, put, tracing};
 ghost use Rattle.demands.specs.Calls.{lent, Starts, Runs, Traces};
-ghost use Rattle.compare.specs.Calls.{answered, nextOf, StartsOn, RunsOn};
+ghost use Rattle.compare.specs.Calls.{answered, nextOf, StartsOn, RunsOn, StartsTable, RunsTable, TracesTable};
 
 // What start and run answer: accepted, or the refusal. The record tells the rest.
 pub enum Answered {
@@ -251,4 +251,119 @@ pub fn trace(
         *held,
         out,
     )
+}
+
+// What a start or run call on a table of its own tells: the record, and the answer.
+pub struct Told {
+    pub run: Run,
+    pub answer: Answered,
+}
+
+// The lesser of two numbers.
+fn least(a: usize, b: usize) -> usize
+    ensures { λ r. ⌜ r ≡ min a b ⌝ }
+{
+    if a < b { a } else { b }
+}
+
+// The rows of a table that a call on columns makes: as many as are lent in every column, and no more than the table has.
+fn rows_lent(lent: usize, places: usize, sets: usize, parents: usize, letters: usize) -> usize
+    ensures { λ r. ⌜ r ≡ min 65536 (min lent (min places (min sets (min parents letters)))) ⌝ }
+{
+    least(
+        65536,
+        least(lent, least(places, least(sets, least(parents, letters)))),
+    )
+}
+
+// The start call on a table that is made of columns, and put back into them.
+pub fn start_table(
+    ls: u8,
+    left: &[u32],
+    rs: u8,
+    right: &[u32],
+    lent: usize,
+    places: &mut [u8],
+    sets: &mut [u64],
+    parents: &mut [u16],
+    letters: &mut [u16],
+    held: Run,
+) -> Told
+    ensures { λ r. ⌜ StartsTable (given ls (now (left .entry)) rs (now (right .entry))) lent (columns (now (places .entry)) (now (sets .entry)) (now (parents .entry)) (now (letters .entry))) held r (columns (now (places .exit)) (now (sets .exit)) (now (parents .exit)) (now (letters .exit))) ⌝ }
+{
+    let mut rows: [Row; 65536] = [Row {
+        set: 0,
+        parent: 0,
+        letter: 0,
+        place: 0,
+    }; 65536];
+    let n = rows_lent(lent, places.len(), sets.len(), parents.len(), letters.len());
+    store(&mut rows, n, places, sets, parents, letters);
+    let mut record = held;
+    let answer = start(ls, left, rs, right, &mut rows[..n], &mut record);
+    load(&rows, n, places, sets, parents, letters);
+    Told {
+        run: record,
+        answer: answer,
+    }
+}
+
+// The run call on a table that is made of columns, and put back into them.
+pub fn run_table(
+    ls: u8,
+    left: &[u32],
+    rs: u8,
+    right: &[u32],
+    lent: usize,
+    places: &mut [u8],
+    sets: &mut [u64],
+    parents: &mut [u16],
+    letters: &mut [u16],
+    held: Run,
+    budget: u64,
+) -> Told
+    ensures { λ r. ⌜ RunsTable (given ls (now (left .entry)) rs (now (right .entry))) lent (columns (now (places .entry)) (now (sets .entry)) (now (parents .entry)) (now (letters .entry))) held budget r (columns (now (places .exit)) (now (sets .exit)) (now (parents .exit)) (now (letters .exit))) ⌝ }
+{
+    let mut rows: [Row; 65536] = [Row {
+        set: 0,
+        parent: 0,
+        letter: 0,
+        place: 0,
+    }; 65536];
+    let n = rows_lent(lent, places.len(), sets.len(), parents.len(), letters.len());
+    store(&mut rows, n, places, sets, parents, letters);
+    let mut record = held;
+    let answer = run(ls, left, rs, right, &mut rows[..n], &mut record, budget);
+    load(&rows, n, places, sets, parents, letters);
+    Told {
+        run: record,
+        answer: answer,
+    }
+}
+
+// The trace call on a table that is made of columns.
+pub fn trace_table(
+    ls: u8,
+    left: &[u32],
+    rs: u8,
+    right: &[u32],
+    lent: usize,
+    places: &[u8],
+    sets: &[u64],
+    parents: &[u16],
+    letters: &[u16],
+    held: Run,
+    out: &mut [u8],
+) -> Tracing
+    ensures { λ r. ⌜ TracesTable (given ls (now (left .entry)) rs (now (right .entry))) lent (columns (now (places .entry)) (now (sets .entry)) (now (parents .entry)) (now (letters .entry))) held (now (out .entry)) r (now (out .exit)) ⌝ }
+{
+    let mut rows: [Row; 65536] = [Row {
+        set: 0,
+        parent: 0,
+        letter: 0,
+        place: 0,
+    }; 65536];
+    let n = rows_lent(lent, places.len(), sets.len(), parents.len(), letters.len());
+    store(&mut rows, n, places, sets, parents, letters);
+    trace(ls, left, rs, right, &rows[..n], &held, out)
 }

@@ -4,6 +4,8 @@ use crate::print;
 use crate::rows;
 use columns::Called;
 use columns::Tracing;
+use compare::Answered;
+use compare::Told;
 use goals::Row;
 use goals::Run;
 ghost use mathlib.Core.Path.{_≡_};
@@ -85,6 +87,24 @@ fn keep(name: &[u8], state: State, answer: Called) -> State {
     }
 }
 
+// The same of a call on rows, which tells the record in either case.
+fn keep_told(name: &[u8], state: State, told: Told) -> State {
+    let run = told.run;
+    let answer = told.answer;
+    print::word(name);
+    match answer {
+        Answered::Accepted => print::run(run),
+        Answered::Refused(why) => {
+            print::refused(why);
+            print::word(b"\n");
+        },
+    }
+    State {
+        lent: state.lent,
+        run: run,
+    }
+}
+
 fn show_tracing(answer: Tracing, out: &[u8]) {
     print::word(b"trace");
     match answer {
@@ -137,6 +157,35 @@ fn trace_to(
     show_tracing(answer, out);
 }
 
+fn trace_rows(
+    ls: u8,
+    left: &[u32],
+    rs: u8,
+    right: &[u32],
+    places: &[u8],
+    sets: &[u64],
+    parents: &[u16],
+    letters: &[u16],
+    state: State,
+    out: &mut [u8],
+) {
+    let run = state.run;
+    let answer = compare::trace_table(
+        ls,
+        left,
+        rs,
+        right,
+        state.lent,
+        places,
+        sets,
+        parents,
+        letters,
+        run,
+        out,
+    );
+    show_tracing(answer, out);
+}
+
 fn trace(
     ls: u8,
     left: &[u32],
@@ -156,18 +205,33 @@ fn trace(
         print::word(b"bad call\n");
         return;
     }
-    trace_to(
-        ls,
-        left,
-        rs,
-        right,
-        places,
-        sets,
-        parents,
-        letters,
-        state,
-        &mut out[..n],
-    );
+    if call.head / 16777216 == 2 {
+        trace_to(
+            ls,
+            left,
+            rs,
+            right,
+            places,
+            sets,
+            parents,
+            letters,
+            state,
+            &mut out[..n],
+        );
+    } else {
+        trace_rows(
+            ls,
+            left,
+            rs,
+            right,
+            places,
+            sets,
+            parents,
+            letters,
+            state,
+            &mut out[..n],
+        );
+    }
 }
 
 fn start(
@@ -224,6 +288,62 @@ fn run(
     keep(b"run", state, answer)
 }
 
+fn start_rows(
+    ls: u8,
+    left: &[u32],
+    rs: u8,
+    right: &[u32],
+    places: &mut [u8],
+    sets: &mut [u64],
+    parents: &mut [u16],
+    letters: &mut [u16],
+    state: State,
+) -> State {
+    let record = state.run;
+    let told = compare::start_table(
+        ls,
+        left,
+        rs,
+        right,
+        state.lent,
+        places,
+        sets,
+        parents,
+        letters,
+        record,
+    );
+    keep_told(b"start", state, told)
+}
+
+fn run_rows(
+    ls: u8,
+    left: &[u32],
+    rs: u8,
+    right: &[u32],
+    places: &mut [u8],
+    sets: &mut [u64],
+    parents: &mut [u16],
+    letters: &mut [u16],
+    state: State,
+    call: Call,
+) -> State {
+    let record = state.run;
+    let told = compare::run_table(
+        ls,
+        left,
+        rs,
+        right,
+        state.lent,
+        places,
+        sets,
+        parents,
+        letters,
+        record,
+        hex::pair(call.a, call.b),
+    );
+    keep_told(b"run", state, told)
+}
+
 // The row before the first of those asked for; row 0 has none, and is its own.
 fn before(i: usize) -> usize {
     if i > 0 { i - 1 } else { 0 }
@@ -257,7 +377,8 @@ fn on_rows(
     }
 }
 
-fn make(
+// Starts or goes on with a run, on columns or on rows.
+fn go_on(
     ls: u8,
     left: &[u32],
     rs: u8,
@@ -283,7 +404,48 @@ fn make(
             state,
             call,
         ),
-        2 => {
+        8 => start_rows(ls, left, rs, right, places, sets, parents, letters, state),
+        _ => run_rows(
+            ls,
+            left,
+            rs,
+            right,
+            places,
+            sets,
+            parents,
+            letters,
+            state,
+            call,
+        ),
+    }
+}
+
+fn make(
+    ls: u8,
+    left: &[u32],
+    rs: u8,
+    right: &[u32],
+    places: &mut [u8],
+    sets: &mut [u64],
+    parents: &mut [u16],
+    letters: &mut [u16],
+    state: State,
+    call: Call,
+) -> State {
+    match call.head / 16777216 {
+        0 | 1 | 8 | 9 => go_on(
+            ls,
+            left,
+            rs,
+            right,
+            places,
+            sets,
+            parents,
+            letters,
+            state,
+            call,
+        ),
+        2 | 10 => {
             trace(
                 ls,
                 left,

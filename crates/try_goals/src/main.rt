@@ -17,6 +17,9 @@
 //     06000000 LENT(16) 0         no call: from here on so many rows are lent
 //     07000000 FROM TO 0          no call: shows the rows from FROM on, below TO
 //
+// Start, run and trace are made on the columns. With 08, 09 and 0a for 00, 01 and 02 they are made on a table
+// of rows: of what is lent in every column, and no more than 65,536 rows.
+//
 // A row that nothing wrote is ee in each byte, and the record is all zeros beforehand. A call that is none
 // of these, or asks for a buffer of more than 512 bytes, is answered by the line `bad call`. A line that
 // begins with '#' is printed as it is. A line that is no record, or has more than 8,192 digits, or columns

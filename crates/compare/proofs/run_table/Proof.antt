@@ -407,7 +407,7 @@ module _ {M : Type 1} (𝓤 : URA M) (H : Heap 𝓤) (A : Atoms 𝓤) (W : Given
         drop ! $ split ! $ move ! (1 ∷ []) $ split ! $ move ! (1 ∷ []) $ split ! $ move ! (1 ∷ []) $ split ! $ move ! (1 ∷ []) $ drop ! $ move ! (1 ∷ []) $ lft-end ! tt $ move ! (0 ∷ 7 ∷ 5 ∷ []) $
         row-back ! tt R (length (rowsIn c₀ n)) (ws .1 .1 .1 .1 .0) l₁₂ 0 $ move ! (0 ∷ 6 ∷ []) $ glues ! R fullShare (ws .1 .1 .1 .1 .0) (rest m c₀ n e) n l₁₂ 0 (len ∙ length-rowsIn c₀ n) $ move ! (1 ∷ []) $ lft-end ! tt $
         move ! (0 ∷ 5 ∷ 4 ∷ []) $ local-back ! tt S (ws .1 .1 .1 .1 .1 .0) l₁₄ 0 $
-        unboxes ! S (LL.vals U.the-type U′.the-laws) (LL.tells U.the-type U′.the-laws) (ws .1 .1 .1 .1 .1 .0) U′.mir (U′.lowered (ws .1 .1 .1 .1 .1 .0)) l₁₄ 0 refl (λ is-rec. forget ! 38 refl $ forget ! 39 refl $
+        unboxes ! S (LL.vals U.the-type U′.the-laws) (LL.tells U.the-type U′.the-laws) (ws .1 .1 .1 .1 .1 .0) (spell Mir.table (pointee (S .written))) (U′.lowered (ws .1 .1 .1 .1 .1 .0)) l₁₄ 0 refl (λ is-rec. forget ! 38 refl $ forget ! 39 refl $
         forget ! 40 refl $
         keep ! (1 ∷ 4 ∷ 5 ∷ 6 ∷ 7 ∷ 8 ∷ 9 ∷ 10 ∷ 11 ∷ 12 ∷ 13 ∷ 14 ∷ 15 ∷ 16 ∷ 17 ∷ 18 ∷ 19 ∷ 0 ∷ 20 ∷ 21 ∷ 22 ∷ 23 ∷ 24 ∷ 25 ∷ 26 ∷ 27 ∷ 28 ∷ 29 ∷ 30 ∷ 31 ∷ 32 ∷ 33 ∷ 34 ∷ 35 ∷ 36 ∷ 37 ∷ 38 ∷ 39 ∷ 40 ∷ 41 ∷ 42 ∷ 43 ∷ 44 ∷ 45 ∷ 46 ∷ 47 ∷ 48 ∷ 49 ∷ 50 ∷ 51 ∷ 52 ∷ 53 ∷ 54 ∷ 55 ∷ 56 ∷ 57 ∷ 58 ∷ 59 ∷ 60 ∷ 61 ∷ 62 ∷ 63 ∷ 3 ∷ 2 ∷ 64 ∷ 65 ∷ 66 ∷ 67 ∷ 68 ∷ 69 ∷ 70 ∷ 71 ∷ 72 ∷ 73 ∷ 74 ∷ 75 ∷ 76 ∷ 77 ∷ 78 ∷ 79 ∷ 80 ∷ 81 ∷ 82 ∷ 83 ∷ 84 ∷ 85 ∷ 86 ∷ 87 ∷ 88 ∷ 89 ∷ 90 ∷ 91 ∷ 92 ∷ 93 ∷ 94 ∷ 95 ∷ 96 ∷ 97 ∷ 98 ∷ 99 ∷ 100 ∷ 101 ∷ 102 ∷ 103 ∷ 104 ∷ 105 ∷ 106 ∷ 107 ∷ 108 ∷ 109 ∷ []) $
         by ! (from-load n e (ws .1 .1 .1 .1 .1 .0) is-rec ans (subst (Is B ans) (Z′.lowers .val-is ans _ is-w) is-w) ((ws .1 .1 .1 .1 .0) ++ rest m c₀ n e) (table-long m c₀ n e (ws .1 .1 .1 .1 .0) len) (said n e (ws .1 .1 .1 .1 .1 .0) ans (ws .1 .1 .1 .1 .0) len done-so)))))))))))))

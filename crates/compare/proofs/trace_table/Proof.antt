@@ -299,7 +299,7 @@ module _ {M : Type 1} (𝓤 : URA M) (H : Heap 𝓤) (A : Atoms 𝓤) (W : Given
         fsplit ! $ fsplit ! $ move ! (1 ∷ []) $ feqL ! (λ len. move ! (1 ∷ []) $ drop ! $ move ! (1 ∷ []) $ split ! $ move ! (1 ∷ []) $ peeks ! E (Is E) (shows 𝓤 H A E) r (w ∷ []) (λ is-r.
         land ! (from ! (stop !)) (init ! 18 refl (typed-result r w is-r)) $ drop ! $ split ! $ move ! (1 ∷ []) $ split ! $ move ! (1 ∷ []) $ split ! $ move ! (1 ∷ []) $ split ! $ move ! (1 ∷ []) $ split ! $ move ! (1 ∷ []) $
         drop ! $ move ! (2 ∷ []) $ lft-end ! tt $ move ! (0 ∷ 7 ∷ []) $ unshare-row ! tt R (rowsIn c₀ n) l₁₃ 0 $ move ! (0 ∷ 7 ∷ []) $ glues ! R fullShare (rowsIn c₀ n) (rest m c₀ n e) n l₁₃ 0 (length-rowsIn c₀ n) $
-        move ! (2 ∷ []) $ lft-end ! tt $ move ! (0 ∷ 6 ∷ []) $ lent-back ! tt $ unboxes ! S (LL.vals U.the-type U′.the-laws) (LL.tells U.the-type U′.the-laws) h U′.mir (U′.lowered h) l₁₂ 0 refl (λ _. forget ! 27 refl $
+        move ! (2 ∷ []) $ lft-end ! tt $ move ! (0 ∷ 6 ∷ []) $ lent-back ! tt $ unboxes ! S (LL.vals U.the-type U′.the-laws) (LL.tells U.the-type U′.the-laws) h (spell Mir.table (pointee (S .written))) (U′.lowered h) l₁₂ 0 refl (λ _. forget ! 27 refl $
         forget ! 28 refl $ forget ! 29 refl $ forget ! 30 refl $ forget ! 31 refl $
         keep ! (5 ∷ 1 ∷ 6 ∷ 7 ∷ 8 ∷ 9 ∷ 10 ∷ 11 ∷ 12 ∷ 13 ∷ 14 ∷ 15 ∷ 16 ∷ 0 ∷ 17 ∷ 18 ∷ 19 ∷ 20 ∷ 21 ∷ 22 ∷ 23 ∷ 24 ∷ 25 ∷ 26 ∷ 27 ∷ 28 ∷ 29 ∷ 30 ∷ 31 ∷ 4 ∷ 3 ∷ 32 ∷ 33 ∷ 34 ∷ 35 ∷ 2 ∷ 36 ∷ 37 ∷ 38 ∷ 39 ∷ 40 ∷ 41 ∷ 42 ∷ 43 ∷ 44 ∷ 45 ∷ 46 ∷ 47 ∷ 48 ∷ 49 ∷ 50 ∷ 51 ∷ 52 ∷ 53 ∷ 54 ∷ 55 ∷ 56 ∷ 57 ∷ 58 ∷ 59 ∷ 60 ∷ 61 ∷ 62 ∷ 63 ∷ []) $
         by ! (from-end n (rowsIn c₀ n ++ rest m c₀ n e) (table-long m c₀ n e (rowsIn c₀ n) refl) r w is-r (ws .1 .1 .1 .1 .1 .1 .0) len (said n e r (ws .1 .1 .1 .1 .1 .1 .0) done-so)))))))))))))
