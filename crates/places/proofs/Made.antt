@@ -25,7 +25,7 @@ use Rattle.effect.proofs.Laws.{entry-decoded}
 use Rattle.effect.proofs.Accepted.{accepted-iff}
 use Rattle.places.specs.declared.Side.{Side}
 use Rattle.places.specs.declared.Masks.{Masks}
-use Rattle.places.specs.declared.Walked.{Walked}
+use Rattle.places.specs.declared.Ends.{Ends}
 use Rattle.places.specs.Places.{place, numbered, hasEmpty, firstOf, lastOf, followOf, after, accepting}
 use Rattle.places.specs.Side.{listOf, sideOf, noSide, prepareOf}
 use Rattle.places.specs.Walk.{tableOf, Walkable, Walks, Holds, Numbers, Surveyable}
@@ -78,27 +78,27 @@ module _ (s : ℕ) (ns : List ℕ) (w : WellFormed s (decodings ns)) where
       same-node : (i : ℕ) → i < length ns → at (tableOf (take (length ns) sk)) i ≡ at (numbered t) i
       same-node i g = table-at (take (length ns) sk) i ∙ ap (λ (x : ℕ). nodeOf (decodeOf x)) (getD-take (length ns) sk i 0 g) ∙ ap nodeOf (h i g) ∙ sym (numbered-at t i)
 
-  module _ (m : Masks) (x : Walked) (o : ℕ) (hm : Holds t (length ns) m) (hx : Walks (numbered t) (length ns - 1) (replicate 64 0) x)
-      (ho : o ≡ cond (x .empty) 1 0) (size : length (x .follow) ≡ 64) where
+  module _ (m : Masks) (x : Ends) (follow : List ℕ) (o : ℕ) (hm : Holds t (length ns) m) (hx : Walks (numbered t) (length ns - 1) (replicate 64 0) x follow)
+      (ho : o ≡ cond (x .empty) 1 0) (size : length follow ≡ 64) where
     root-is : length ns - 1 ≡ root (numbered t)
     root-is = ap (λ (n : ℕ). n - 1) (sym (numbered-length t ∙ table-length ns))
 
-    follow-made : set (x .follow) 0 (x .first) ≡ listOf 64 (after (numbered t))
+    follow-made : set follow 0 (x .first) ≡ listOf 64 (after (numbered t))
     unfolding after
-    follow-made = ext-getD 0 _ _ (length-set (x .follow) 0 (x .first) ∙ size ∙ sym (listOf-length 64 (after (numbered t))))
+    follow-made = ext-getD 0 _ _ (length-set follow 0 (x .first) ∙ size ∙ sym (listOf-length 64 (after (numbered t))))
         (λ j l. go j (rw (length-set, size) at l) (ℕ-discrete j 0) ∙ sym (listOf-at 64 (after (numbered t)) j (rw (length-set, size) at l)))
       where
-        go : (j : ℕ) → j < 64 → Dec (j ≡ 0) → getD (set (x .follow) 0 (x .first)) j 0 ≡ cond (eqb j 0) (firstOf (numbered t) (root (numbered t))) (followOf (numbered t) j (root (numbered t)))
-        go j l (yes e) = rw e (getD-set-same (x .follow) 0 (x .first) 0 (omega arith) ∙ hx .first ∙ ap (firstOf (numbered t)) root-is)
+        go : (j : ℕ) → j < 64 → Dec (j ≡ 0) → getD (set follow 0 (x .first)) j 0 ≡ cond (eqb j 0) (firstOf (numbered t) (root (numbered t))) (followOf (numbered t) j (root (numbered t)))
+        go j l (yes e) = rw e (getD-set-same follow 0 (x .first) 0 (omega arith) ∙ hx .first ∙ ap (firstOf (numbered t)) root-is)
         go j l (no e) = rw (ne-eqb j 0 e)
-            (getD-set-other (x .follow) 0 j (x .first) 0 e ∙ hx .follow j l ∙ ap (λ (z : ℕ). bitOr z (followOf (numbered t) j (length ns - 1))) (getD-replicate 64 j 0 0 l)
+            (getD-set-other follow 0 j (x .first) 0 e ∙ hx .follow j l ∙ ap (λ (z : ℕ). bitOr z (followOf (numbered t) j (length ns - 1))) (getD-replicate 64 j 0 0 l)
             ∙ or-zero-l (followOf (numbered t) j (length ns - 1)) ∙ ap (followOf (numbered t) j) root-is)
 
     accepts-made : bitOr (x .last) o ≡ accepting (numbered t)
     unfolding accepting
     accepts-made = ap₂ bitOr (hx .last ∙ ap (lastOf (numbered t)) root-is) (ho ∙ ap (λ (b : Bool). cond b 1 0) (hx .empty ∙ ap (hasEmpty (numbered t)) root-is))
 
-    pub side-made : record { s = s; count = m .count; present = m .present; absent = m .absent; accepts = bitOr (x .last) o; follow = set (x .follow) 0 (x .first) } ≡ sideOf s t
+    pub side-made : record { s = s; count = m .count; present = m .present; absent = m .absent; accepts = bitOr (x .last) o; follow = set follow 0 (x .first) } ≡ sideOf s t
     unfolding sideOf
     side-made =
         let h : Holds t (length t) m = subst (λ (n : ℕ). Holds t n m) (sym (table-length ns)) hm in

@@ -13,7 +13,7 @@ use Rattle.effect.specs.declared.Node.{Node}
 use Rattle.effect.specs.declared.Node.the-variants.{Nil, Empty, Instant, Seq, Choice, Repeat}
 use Rattle.effect.specs.Meaning.{at}
 use Rattle.effect.specs.WellFormed.{Child}
-use Rattle.places.specs.declared.Walked.{Walked}
+use Rattle.places.specs.declared.Ends.{Ends}
 use Rattle.places.specs.Places.{emptyRow, firstRow, lastRow, followRow, hasEmpty, firstOf, lastOf, followOf}
 use Rattle.places.specs.Walk.{Walks}
 use Rattle.places.proofs.Rows.{empty-is, first-is, last-is, follow-is}
@@ -34,16 +34,16 @@ module _ (u : List Node) (lower : (i c : ℕ) → Child (at u i) c → c < i) (i
   follow-row : (j : ℕ) → followOf u j i ≡ followRow (firstOf u) (lastOf u) j (followOf u j) n
   follow-row j = follow-is u lower j i ∙ ap (followRow (firstOf u) (lastOf u) j (followOf u j)) e
 
--- a walk's answer as a record, from its four parts
-abbrev pub walked : Bool → ℕ → ℕ → List ℕ → Walked
-walked e f l w = record { empty = e; first = f; last = l; follow = w }
+-- a walk's answer as a record, from its three parts
+abbrev pub ends : Bool → ℕ → ℕ → Ends
+ends e f l = record { empty = e; first = f; last = l }
 
 module _ (u : List Node) (lower : (i c : ℕ) → Child (at u i) c → c < i) (i : ℕ) (before : List ℕ) where
   -- a node of no link leaves the follow sets
   kept : (n : Node) → at u i ≡ n → ((j : ℕ) → followRow (firstOf u) (lastOf u) j (followOf u j) n ≡ 0) → (j : ℕ) → getD before j 0 ≡ bitOr (getD before j 0) (followOf u j i)
   kept n e z j = sym (ap (bitOr (getD before j 0)) (follow-row u lower i n e j ∙ z j) ∙ or-zero-r (getD before j 0))
 
-  pub walks-nil : at u i ≡ Nil → Walks u i before (walked false 0 0 before)
+  pub walks-nil : at u i ≡ Nil → Walks u i before (ends false 0 0) before
   walks-nil e = record {
     empty = sym (empty-row u lower i Nil e);
     first = sym (first-row u lower i Nil e);
@@ -51,7 +51,7 @@ module _ (u : List Node) (lower : (i c : ℕ) → Child (at u i) c → c < i) (i
     follow = λ j l. kept Nil e (λ j. refl) j;
   }
 
-  pub walks-empty : at u i ≡ Empty → Walks u i before (walked true 0 0 before)
+  pub walks-empty : at u i ≡ Empty → Walks u i before (ends true 0 0) before
   walks-empty e = record {
     empty = sym (empty-row u lower i Empty e);
     first = sym (first-row u lower i Empty e);
@@ -59,7 +59,7 @@ module _ (u : List Node) (lower : (i c : ℕ) → Child (at u i) c → c < i) (i
     follow = λ j l. kept Empty e (λ j. refl) j;
   }
 
-  pub walks-instant : (k q p : ℕ) → at u i ≡ Instant k q → p ≡ 2 ^ k → Walks u i before (walked false p p before)
+  pub walks-instant : (k q p : ℕ) → at u i ≡ Instant k q → p ≡ 2 ^ k → Walks u i before (ends false p p) before
   walks-instant k q p e h = record {
     empty = sym (empty-row u lower i (Instant k q) e);
     first = h ∙ sym (first-row u lower i (Instant k q) e);
@@ -67,13 +67,13 @@ module _ (u : List Node) (lower : (i c : ℕ) → Child (at u i) c → c < i) (i
     follow = λ j l. kept (Instant k q) e (λ j. refl) j;
   }
 
-  module _ (a b : ℕ) (x y : Walked) (wx : Walks u a before x) (wy : Walks u b (x .follow) y) where
-    both : (j : ℕ) → j < 64 → getD (y .follow) j 0 ≡ bitOr (getD before j 0) (bitOr (followOf u j a) (followOf u j b))
+  module _ (a b : ℕ) (x y : Ends) (mid then : List ℕ) (wx : Walks u a before x mid) (wy : Walks u b mid y then) where
+    both : (j : ℕ) → j < 64 → getD then j 0 ≡ bitOr (getD before j 0) (bitOr (followOf u j a) (followOf u j b))
     both j l = wy .follow j l ∙ ap (λ (z : ℕ). bitOr z (followOf u j b)) (wx .follow j l) ∙ or-assoc (getD before j 0) (followOf u j a) (followOf u j b)
 
     pub walks-seq : at u i ≡ Seq a b → (f l : ℕ) (w : List ℕ) → f ≡ cond (x .empty) (y .first) 0 → l ≡ cond (y .empty) (x .last) 0
-        → ((j : ℕ) → j < 64 → getD w j 0 ≡ bitOr (getD (y .follow) j 0) (cond (has (x .last) j) (y .first) 0))
-        → Walks u i before (walked (x .empty && y .empty) (bitOr (x .first) f) (bitOr (y .last) l) w)
+        → ((j : ℕ) → j < 64 → getD w j 0 ≡ bitOr (getD then j 0) (cond (has (x .last) j) (y .first) 0))
+        → Walks u i before (ends (x .empty && y .empty) (bitOr (x .first) f) (bitOr (y .last) l)) w
     walks-seq e f l w hf hl hw = record {
       empty = ap₂ _&&_ (wx .empty) (wy .empty) ∙ sym (empty-row u lower i (Seq a b) e);
       first = ap₂ bitOr (wx .first) (hf ∙ ap₂ (λ (t : Bool) (z : ℕ). cond t z 0) (wx .empty) (wy .first)) ∙ sym (first-row u lower i (Seq a b) e);
@@ -84,7 +84,7 @@ module _ (u : List Node) (lower : (i c : ℕ) → Child (at u i) c → c < i) (i
           ∙ ap (bitOr (getD before j 0)) (sym (follow-row u lower i (Seq a b) e j));
     }
 
-    pub walks-choice : at u i ≡ Choice a b → Walks u i before (walked (x .empty || y .empty) (bitOr (x .first) (y .first)) (bitOr (x .last) (y .last)) (y .follow))
+    pub walks-choice : at u i ≡ Choice a b → Walks u i before (ends (x .empty || y .empty) (bitOr (x .first) (y .first)) (bitOr (x .last) (y .last))) then
     walks-choice e = record {
       empty = ap₂ _||_ (wx .empty) (wy .empty) ∙ sym (empty-row u lower i (Choice a b) e);
       first = ap₂ bitOr (wx .first) (wy .first) ∙ sym (first-row u lower i (Choice a b) e);
@@ -92,10 +92,10 @@ module _ (u : List Node) (lower : (i c : ℕ) → Child (at u i) c → c < i) (i
       follow = λ j g. both j g ∙ ap (bitOr (getD before j 0)) (sym (follow-row u lower i (Choice a b) e j));
     }
 
-  pub walks-repeat : (a : ℕ) (x : Walked) (w : List ℕ) → Walks u a before x → at u i ≡ Repeat a
-      → ((j : ℕ) → j < 64 → getD w j 0 ≡ bitOr (getD (x .follow) j 0) (cond (has (x .last) j) (x .first) 0))
-      → Walks u i before (walked true (x .first) (x .last) w)
-  walks-repeat a x w wx e hw = record {
+  pub walks-repeat : (a : ℕ) (x : Ends) (then w : List ℕ) → Walks u a before x then → at u i ≡ Repeat a
+      → ((j : ℕ) → j < 64 → getD w j 0 ≡ bitOr (getD then j 0) (cond (has (x .last) j) (x .first) 0))
+      → Walks u i before (ends true (x .first) (x .last)) w
+  walks-repeat a x then w wx e hw = record {
     empty = sym (empty-row u lower i (Repeat a) e);
     first = wx .first ∙ sym (first-row u lower i (Repeat a) e);
     last = wx .last ∙ sym (last-row u lower i (Repeat a) e);

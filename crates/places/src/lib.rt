@@ -42,13 +42,11 @@ pub struct Naming {
     pub absent: [u64; 16],
 }
 
-// What the walk over a node and all below it answers: whether it has the empty trace, its first and last places, and
-// the follow sets with what these nodes add.
-struct Walked {
+// What the walk over a node answers: whether it has the empty trace, and its first and last places.
+struct Ends {
     empty: bool,
     first: u64,
     last: u64,
-    follow: [u64; 64],
 }
 
 // The masks of the instants so far, by place, and how many there are.
@@ -79,79 +77,68 @@ fn only_if(b: bool, x: u64) -> u64
 }
 
 // After each place of `last` the places of `first` may follow too.
-fn join(follow: [u64; 64], last: u64, first: u64) -> [u64; 64]
-    ensures { λ r. ⌜ ((j : ℕ) → j < 64 → getD r j 0 ≡ bitOr (getD follow j 0) (cond (has last j) first 0)) ⌝ }
+fn join(follow: &mut [u64], last: u64, first: u64)
+    requires { ⌜ length (now follow) ≡ 64 ⌝ }
+    ensures { λ _. ⌜ ((j : ℕ) → j < 64 → getD (now (follow .exit)) j 0 ≡ bitOr (getD (now (follow .entry)) j 0) (cond (has last j) first 0)) ⌝ }
 {
-    let mut r = follow;
     let mut j: usize = 0;
     while j < 64 {
-        r[j] = r[j] | only_if(bits::has(last, j as u64), first);
+        follow[j] = follow[j] | only_if(bits::has(last, j as u64), first);
         j += 1;
     }
-    r
 }
 
-// The node i of a numbered table and all below it, each visited once.
-fn walk(nodes: &[u32], i: usize, follow: [u64; 64]) -> Walked
-    requires { ⌜ Walkable (tableOf (now nodes)) ⌝ }
-    ensures { λ r. ⌜ Walks (tableOf (now (nodes .entry))) i follow r ⌝ }
+// The node i of a numbered table and all below it, each visited once. What these nodes add to the follow sets is written to the one
+// array that all share: a walk may be 255 nodes deep, and a copy in each would take a megabyte of stack.
+fn walk(nodes: &[u32], i: usize, follow: &mut [u64]) -> Ends
+    requires { ⌜ Walkable (tableOf (now nodes)) × (length (now follow) ≡ 64) ⌝ }
+    ensures { λ r. ⌜ Walks (tableOf (now (nodes .entry))) i (now (follow .entry)) r (now (follow .exit)) ⌝ }
 {
     match node_at(nodes, i) {
-        Node::Nil => Walked {
+        Node::Nil => Ends {
             empty: false,
             first: 0,
             last: 0,
-            follow: follow,
         },
-        Node::Empty => Walked {
+        Node::Empty => Ends {
             empty: true,
             first: 0,
             last: 0,
-            follow: follow,
         },
         Node::Instant(j, _) => {
             let place = bits::single(j as u64);
-            Walked {
+            Ends {
                 empty: false,
                 first: place,
                 last: place,
-                follow: follow,
             }
         },
         Node::Seq(a, b) => {
             let x = walk(nodes, a as usize, follow);
-            let after_x = x.follow;
-            let y = walk(nodes, b as usize, after_x);
-            let after_y = y.follow;
-            let joined = join(after_y, x.last, y.first);
-            Walked {
+            let y = walk(nodes, b as usize, follow);
+            join(follow, x.last, y.first);
+            Ends {
                 empty: x.empty & y.empty,
                 first: x.first | only_if(x.empty, y.first),
                 last: y.last | only_if(y.empty, x.last),
-                follow: joined,
             }
         },
         Node::Choice(a, b) => {
             let x = walk(nodes, a as usize, follow);
-            let after_x = x.follow;
-            let y = walk(nodes, b as usize, after_x);
-            let after_y = y.follow;
-            Walked {
+            let y = walk(nodes, b as usize, follow);
+            Ends {
                 empty: x.empty | y.empty,
                 first: x.first | y.first,
                 last: x.last | y.last,
-                follow: after_y,
             }
         },
         Node::Repeat(a) => {
             let x = walk(nodes, a as usize, follow);
-            let after_x = x.follow;
-            let joined = join(after_x, x.last, x.first);
-            Walked {
+            join(follow, x.last, x.first);
+            Ends {
                 empty: true,
                 first: x.first,
                 last: x.last,
-                follow: joined,
             }
         },
     }
@@ -231,10 +218,9 @@ fn side_of(s: u8, nodes: &[u32]) -> Side
     let n = nodes.len();
     let mut skeleton: [u32; 255] = [0; 255];
     let masks = survey(nodes, &mut skeleton);
-    let nothing = [0; 64];
-    let w = walk(&skeleton[..n], n - 1, nothing);
-    let mut follow = w.follow;
-    follow[0] = w.first;
+    let mut follow: [u64; 64] = [0; 64];
+    let ends = walk(&skeleton[..n], n - 1, &mut follow);
+    follow[0] = ends.first;
     let present = masks.present;
     let absent = masks.absent;
     Side {
@@ -242,7 +228,7 @@ fn side_of(s: u8, nodes: &[u32]) -> Side
         count: masks.count,
         present: present,
         absent: absent,
-        accepts: w.last | only_if(w.empty, 1),
+        accepts: ends.last | only_if(ends.empty, 1),
         follow: follow,
     }
 }
