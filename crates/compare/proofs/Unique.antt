@@ -1,6 +1,7 @@
 -- Each promise fixes what a call leaves: two results that meet the promise of a call, on lent rows or on a table of its own, are equal.
 use Prim.Native.Nat.{ℕ}
 use mathlib.Core.Path.{_≡_, refl, sym, ap, _∙_}
+use mathlib.Core.Bool.{Bool, true, false}
 use mathlib.Core.List.{List}
 use native.Mathlib.Omega.{arith}
 use Rattle.goals.specs.declared.Run.{Run}
@@ -14,7 +15,7 @@ use Rattle.demands.specs.Calls.{Lent, lent, Starts, Runs, Traces}
 use Rattle.compare.specs.declared.Answered.{Answered}
 use Rattle.compare.specs.declared.Answered.the-variants.{Accepted, Refused}
 use Rattle.compare.specs.declared.Told.{Told}
-use Rattle.compare.specs.Calls.{answered, tableIn, StartsTable, RunsTable, TracesTable}
+use Rattle.compare.specs.Calls.{answered, tableIn, StartsOrRuns, CallsTable, TracesTable}
 
 -- a refusal names a side
 some-side : (w : Which) → 0 ≡ sideNumber w → ⊥
@@ -46,14 +47,13 @@ module _ (n : ℕ) (c c′ c″ : Columns) (held : Run) (r r′ : Told) where
       let runs : r .run ≡ r′ .run = sym a ∙ ap (λ (l : Lent). l .held) (e .1) ∙ b in
       ((λ i. record { run = runs i; answer = e .0 i }), p ∙ ap (λ (l : Lent). put (l .rows) c) (e .1) ∙ sym q)
 
-  pub start-table-one : (g : Given) → StartsTable g n c held r c′ → StartsTable g n c held r′ c″ → (r ≡ r′) × (c′ ≡ c″)
-  start-table-one g p q =
+  pub call-table-one : (begins : Bool) (g : Given) (budget : ℕ) → CallsTable begins g n c held budget r c′ → CallsTable begins g n c held budget r′ c″ → (r ≡ r′) × (c′ ≡ c″)
+  unfolding StartsOrRuns
+  call-table-one true g budget p q =
       let k = lent (p .0) (r .run) in
       let k′ = lent (q .0) (r′ .run) in
       told-one k k′ refl refl (p .2) (q .2) (start-one g (lent (tableIn n c) held) k k′ (r .answer) (r′ .answer) (p .1) (q .1))
-
-  pub run-table-one : (g : Given) (budget : ℕ) → RunsTable g n c held budget r c′ → RunsTable g n c held budget r′ c″ → (r ≡ r′) × (c′ ≡ c″)
-  run-table-one g budget p q =
+  call-table-one false g budget p q =
       let k = lent (p .0) (r .run) in
       let k′ = lent (q .0) (r′ .run) in
       told-one k k′ refl refl (p .2) (q .2) (run-one g (lent (tableIn n c) held) k k′ budget (r .answer) (r′ .answer) (p .1) (q .1))

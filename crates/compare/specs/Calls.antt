@@ -1,6 +1,7 @@
 -- What the calls on rows answer, and what the calls on columns leave for them.
 use Prim.Native.Nat.{ℕ, min}
 use mathlib.Core.Path.{_≡_}
+use mathlib.Core.Bool.{Bool, true, false}
 use mathlib.Core.List.{List, []}
 use Rattle.goals.specs.declared.Row.{Row}
 use Rattle.goals.specs.declared.Run.{Run}
@@ -10,7 +11,7 @@ use Rattle.columns.specs.declared.Called.the-variants as called-variants
 use Rattle.columns.specs.declared.Tracing.{Tracing}
 use Rattle.columns.specs.Calls as core
 use Rattle.columns.specs.Calls.{Columns, lentIn, rowsIn, put, tracing}
-use Rattle.demands.specs.Calls.{lent, Starts, Runs, Traces}
+use Rattle.demands.specs.Calls.{Lent, lent, Starts, Runs, Traces}
 use Rattle.compare.specs.declared.Answered.{Answered}
 use Rattle.compare.specs.declared.Answered.the-variants as answered-variants
 use Rattle.compare.specs.declared.Next.{Next}
@@ -37,13 +38,16 @@ RunsOn g lent c held budget r c′ = (answer : Called) × core.Runs g lent c hel
 abbrev pub tableIn : ℕ → Columns → List Row
 tableIn n c = rowsIn c (min 65536 (lentIn n c))
 
+-- start, where the run begins, or else a run call
+unfoldable pub StartsOrRuns : Bool → Given → Lent → ℕ → Reply → Lent → Type 0
+StartsOrRuns true g l budget reply l′ = Starts g l reply l′
+StartsOrRuns false g l budget reply l′ = Runs g l budget reply l′
+
 -- the calls on such a table: what is told is what the call on its rows and the record answers and leaves, and the rows that it leaves are
 -- at the front of the columns, "the other rows stay"
-abbrev pub StartsTable : Given → ℕ → Columns → Run → Told → Columns → Type 0
-StartsTable g n c held r c′ = (rows′ : List Row) × Starts g (lent (tableIn n c) held) (answered (r .answer)) (lent rows′ (r .run)) × (c′ ≡ put rows′ c)
-
-abbrev pub RunsTable : Given → ℕ → Columns → Run → ℕ → Told → Columns → Type 0
-RunsTable g n c held budget r c′ = (rows′ : List Row) × Runs g (lent (tableIn n c) held) budget (answered (r .answer)) (lent rows′ (r .run)) × (c′ ≡ put rows′ c)
+abbrev pub CallsTable : Bool → Given → ℕ → Columns → Run → ℕ → Told → Columns → Type 0
+CallsTable begins g n c held budget r c′ =
+    (rows′ : List Row) × StartsOrRuns begins g (lent (tableIn n c) held) budget (answered (r .answer)) (lent rows′ (r .run)) × (c′ ≡ put rows′ c)
 
 abbrev pub TracesTable : Given → ℕ → Columns → Run → List ℕ → Tracing → List ℕ → Type 0
 TracesTable g n c held out r out′ = Traces g (lent (tableIn n c) held) out (tracing r) out′

@@ -1,5 +1,6 @@
 // The calls as a caller makes them, on a lent table of rows and a lent record: thin functions above the calls on columns. The used
 // rows are loaded into columns, the core is called, and the rows that are then used are stored again at the front of the table.
+// Behind them the same calls on a table of their own, made of columns: what a program calls.
 use columns::Called;
 use columns::Tracing;
 use columns::run_on;
@@ -15,7 +16,7 @@ ghost use Rattle.effect.specs.Refusals.{front};
 ghost use Rattle.goals.specs.Refusals.{given, roomOf};
 ghost use Rattle.columns.specs.Calls.{columns, rowsIn, put, tracing};
 ghost use Rattle.demands.specs.Calls.{lent, Starts, Runs, Traces};
-ghost use Rattle.compare.specs.Calls.{answered, nextOf, StartsOn, RunsOn, StartsTable, RunsTable, TracesTable};
+ghost use Rattle.compare.specs.Calls.{answered, nextOf, StartsOn, RunsOn, StartsOrRuns, CallsTable, TracesTable};
 
 // What start and run answer: accepted, or the refusal. The record tells the rest.
 pub enum Answered {
@@ -276,40 +277,29 @@ fn rows_lent(lent: usize, places: usize, sets: usize, parents: usize, letters: u
     )
 }
 
-// The start call on a table that is made of columns, and put back into them.
-pub fn start_table(
+// Start, where the run begins, or else a run call.
+fn start_or_run(
+    begins: bool,
     ls: u8,
     left: &[u32],
     rs: u8,
     right: &[u32],
-    lent: usize,
-    places: &mut [u8],
-    sets: &mut [u64],
-    parents: &mut [u16],
-    letters: &mut [u16],
-    held: Run,
-) -> Told
-    ensures { λ r. ⌜ StartsTable (given ls (now (left .entry)) rs (now (right .entry))) lent (columns (now (places .entry)) (now (sets .entry)) (now (parents .entry)) (now (letters .entry))) held r (columns (now (places .exit)) (now (sets .exit)) (now (parents .exit)) (now (letters .exit))) ⌝ }
+    rows: &mut [Row],
+    held: &mut Run,
+    budget: u64,
+) -> Answered
+    ensures { λ r. ⌜ StartsOrRuns begins (given ls (now (left .entry)) rs (now (right .entry))) (lent (now (rows .entry)) (now (held .entry))) budget (answered r) (lent (now (rows .exit)) (now (held .exit))) ⌝ }
 {
-    let mut rows: [Row; 65536] = [Row {
-        set: 0,
-        parent: 0,
-        letter: 0,
-        place: 0,
-    }; 65536];
-    let n = rows_lent(lent, places.len(), sets.len(), parents.len(), letters.len());
-    store(&mut rows, n, places, sets, parents, letters);
-    let mut record = held;
-    let answer = start(ls, left, rs, right, &mut rows[..n], &mut record);
-    load(&rows, n, places, sets, parents, letters);
-    Told {
-        run: record,
-        answer: answer,
+    if begins {
+        start(ls, left, rs, right, rows, held)
+    } else {
+        run(ls, left, rs, right, rows, held, budget)
     }
 }
 
-// The run call on a table that is made of columns, and put back into them.
-pub fn run_table(
+// Start, where the run begins, or else a run call, on a table that is made of columns, and put back into them.
+pub fn call_table(
+    begins: bool,
     ls: u8,
     left: &[u32],
     rs: u8,
@@ -322,7 +312,7 @@ pub fn run_table(
     held: Run,
     budget: u64,
 ) -> Told
-    ensures { λ r. ⌜ RunsTable (given ls (now (left .entry)) rs (now (right .entry))) lent (columns (now (places .entry)) (now (sets .entry)) (now (parents .entry)) (now (letters .entry))) held budget r (columns (now (places .exit)) (now (sets .exit)) (now (parents .exit)) (now (letters .exit))) ⌝ }
+    ensures { λ r. ⌜ CallsTable begins (given ls (now (left .entry)) rs (now (right .entry))) lent (columns (now (places .entry)) (now (sets .entry)) (now (parents .entry)) (now (letters .entry))) held budget r (columns (now (places .exit)) (now (sets .exit)) (now (parents .exit)) (now (letters .exit))) ⌝ }
 {
     let mut rows: [Row; 65536] = [Row {
         set: 0,
@@ -333,7 +323,16 @@ pub fn run_table(
     let n = rows_lent(lent, places.len(), sets.len(), parents.len(), letters.len());
     store(&mut rows, n, places, sets, parents, letters);
     let mut record = held;
-    let answer = run(ls, left, rs, right, &mut rows[..n], &mut record, budget);
+    let answer = start_or_run(
+        begins,
+        ls,
+        left,
+        rs,
+        right,
+        &mut rows[..n],
+        &mut record,
+        budget,
+    );
     load(&rows, n, places, sets, parents, letters);
     Told {
         run: record,

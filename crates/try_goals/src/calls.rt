@@ -288,34 +288,8 @@ fn run(
     keep(b"run", state, answer)
 }
 
-fn start_rows(
-    ls: u8,
-    left: &[u32],
-    rs: u8,
-    right: &[u32],
-    places: &mut [u8],
-    sets: &mut [u64],
-    parents: &mut [u16],
-    letters: &mut [u16],
-    state: State,
-) -> State {
-    let record = state.run;
-    let told = compare::start_table(
-        ls,
-        left,
-        rs,
-        right,
-        state.lent,
-        places,
-        sets,
-        parents,
-        letters,
-        record,
-    );
-    keep_told(b"start", state, told)
-}
-
-fn run_rows(
+// A start or run call on rows.
+fn call_rows(
     ls: u8,
     left: &[u32],
     rs: u8,
@@ -327,8 +301,10 @@ fn run_rows(
     state: State,
     call: Call,
 ) -> State {
+    let begins = call.head / 16777216 == 8;
     let record = state.run;
-    let told = compare::run_table(
+    let told = compare::call_table(
+        begins,
         ls,
         left,
         rs,
@@ -341,7 +317,11 @@ fn run_rows(
         record,
         hex::pair(call.a, call.b),
     );
-    keep_told(b"run", state, told)
+    if begins {
+        keep_told(b"start", state, told)
+    } else {
+        keep_told(b"run", state, told)
+    }
 }
 
 // The row before the first of those asked for; row 0 has none, and is its own.
@@ -377,8 +357,7 @@ fn on_rows(
     }
 }
 
-// Starts or goes on with a run, on columns or on rows.
-fn go_on(
+fn make(
     ls: u8,
     left: &[u32],
     rs: u8,
@@ -393,47 +372,6 @@ fn go_on(
     match call.head / 16777216 {
         0 => start(ls, left, rs, right, places, sets, parents, letters, state),
         1 => run(
-            ls,
-            left,
-            rs,
-            right,
-            places,
-            sets,
-            parents,
-            letters,
-            state,
-            call,
-        ),
-        8 => start_rows(ls, left, rs, right, places, sets, parents, letters, state),
-        _ => run_rows(
-            ls,
-            left,
-            rs,
-            right,
-            places,
-            sets,
-            parents,
-            letters,
-            state,
-            call,
-        ),
-    }
-}
-
-fn make(
-    ls: u8,
-    left: &[u32],
-    rs: u8,
-    right: &[u32],
-    places: &mut [u8],
-    sets: &mut [u64],
-    parents: &mut [u16],
-    letters: &mut [u16],
-    state: State,
-    call: Call,
-) -> State {
-    match call.head / 16777216 {
-        0 | 1 | 8 | 9 => go_on(
             ls,
             left,
             rs,
@@ -460,6 +398,18 @@ fn make(
             );
             state
         },
+        8 | 9 => call_rows(
+            ls,
+            left,
+            rs,
+            right,
+            places,
+            sets,
+            parents,
+            letters,
+            state,
+            call,
+        ),
         3 => forge(state, call),
         6 => lend(state, call),
         _ => {
