@@ -592,9 +592,9 @@ def tables_of_rows(v):
     v.title('on columns and on rows by turns')
     (v.started('C9', 5).by('rows').run(1, (1, 2, 0)).by('columns').run(1, (2, 3, 0)).by('rows').run(1, (2, 3, REFUTED))
      .by('columns').trace(2, [1, 0]).by('rows').trace(2, [1, 0]).start(STARTED).by('columns').run(9, (2, 3, REFUTED)).show(0, 5).save())
-    v.title('on rows: a refused call leaves the rows and the record')
-    (v.started('C9', 5).by('rows').run(1, (1, 2, 0)).forge(1, 9, 0).run(5, 16).by('columns').run(5, 16).forge(1, 2, 0)
-     .by('rows').run(9, (2, 3, REFUTED)).show(0, 5).save())
+    v.title('on rows: a refused start, run and trace leave the rows and the record, and the run goes on')
+    (v.pair('C9', 5).by('rows').start(STARTED).run(1, (1, 2, 0)).lend(1).run(5, 16).trace(2, 16).lend(0).start(15).show(0, 5)
+     .lend(5).run(9, (2, 3, REFUTED)).lend(0).start(15).lend(5).trace(2, [1, 0]).show(0, 5).save())
 
 
 def traces(v):

@@ -503,7 +503,8 @@ fn sides_of(ls: u8, left: &[u32], rs: u8, right: &[u32]) -> Sides
     }
 }
 
-fn lesser(a: usize, b: usize) -> usize
+// Of the rows lent and the lengths of columns the least one counts.
+pub fn lesser(a: usize, b: usize) -> usize
     ensures { λ r. ⌜ r ≡ min a b ⌝ }
 {
     if a < b { a } else { b }

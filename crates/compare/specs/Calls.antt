@@ -34,16 +34,16 @@ StartsOn g lent c held r c′ = (answer : Called) × core.Starts g lent c answer
 abbrev pub RunsOn : Given → ℕ → Columns → Run → ℕ → Next → Columns → Type 0
 RunsOn g lent c held budget r c′ = (answer : Called) × core.Runs g lent c held budget answer c′ × (r ≡ nextOf answer held)
 
--- A table of its own that a call on columns makes: the rows lent in the columns, and no more than 65,536.
-abbrev pub tableIn : ℕ → Columns → List Row
-tableIn n c = rowsIn c (min 65536 (lentIn n c))
-
 -- start, where the run begins, or else a run call
 unfoldable pub StartsOrRuns : Bool → Given → Lent → ℕ → Reply → Lent → Type 0
 StartsOrRuns true g l budget reply l′ = Starts g l reply l′
 StartsOrRuns false g l budget reply l′ = Runs g l budget reply l′
 
--- the calls on such a table: what is told is what the call on its rows and the record answers and leaves, and the rows that it leaves are
+-- The table that a call owns and makes of columns: the rows lent in them, and no more than 65,536.
+abbrev pub tableIn : ℕ → Columns → List Row
+tableIn n c = rowsIn c (min 65536 (lentIn n c))
+
+-- the calls on that table: what is told is what the call on its rows and the record answers and leaves, and the rows that it leaves are
 -- at the front of the columns, "the other rows stay"
 abbrev pub CallsTable : Bool → Given → ℕ → Columns → Run → ℕ → Told → Columns → Type 0
 CallsTable begins g n c held budget r c′ =

@@ -3,6 +3,7 @@
 // Behind them the same calls on a table of their own, made of columns: what a program calls.
 use columns::Called;
 use columns::Tracing;
+use columns::lesser;
 use columns::run_on;
 use columns::start_on;
 use columns::trace_on;
@@ -36,8 +37,7 @@ fn used_within(used: u32, lent: usize) -> usize
     ensures { λ r. ⌜ r ≡ min (roomOf lent) used ⌝ }
 {
     let room = goals::room_of(lent);
-    let n = used as usize;
-    if n < room { n } else { room }
+    lesser(room, used as usize)
 }
 
 // What a call on columns answered, for the rows. A refusal stores none.
@@ -260,21 +260,13 @@ pub struct Told {
     pub answer: Answered,
 }
 
-// The lesser of two numbers.
-fn least(a: usize, b: usize) -> usize
-    ensures { λ r. ⌜ r ≡ min a b ⌝ }
-{
-    if a < b { a } else { b }
-}
-
-// The rows of a table that a call on columns makes: as many as are lent in every column, and no more than the table has.
+// How many rows of its own table a call lends: as many as are lent in every column, and no more than the table has.
 fn rows_lent(lent: usize, places: usize, sets: usize, parents: usize, letters: usize) -> usize
     ensures { λ r. ⌜ r ≡ min 65536 (min lent (min places (min sets (min parents letters)))) ⌝ }
 {
-    least(
-        65536,
-        least(lent, least(places, least(sets, least(parents, letters)))),
-    )
+    let later = lesser(parents, letters);
+    let columns = lesser(places, lesser(sets, later));
+    lesser(65536, lesser(lent, columns))
 }
 
 // Start, where the run begins, or else a run call.

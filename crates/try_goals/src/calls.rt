@@ -128,7 +128,9 @@ fn within(n: usize, bytes: &[u8]) -> usize
     if n < bytes.len() { n } else { bytes.len() }
 }
 
-fn trace_to(
+// A trace call, on rows or on columns.
+fn traced(
+    on_rows: bool,
     ls: u8,
     left: &[u32],
     rs: u8,
@@ -139,25 +141,42 @@ fn trace_to(
     letters: &[u16],
     state: State,
     out: &mut [u8],
-) {
+) -> Tracing {
     let run = state.run;
-    let answer = columns::trace_on(
-        ls,
-        left,
-        rs,
-        right,
-        state.lent,
-        places,
-        sets,
-        parents,
-        letters,
-        run,
-        out,
-    );
-    show_tracing(answer, out);
+    let lent = state.lent;
+    if on_rows {
+        compare::trace_table(
+            ls,
+            left,
+            rs,
+            right,
+            lent,
+            places,
+            sets,
+            parents,
+            letters,
+            run,
+            out,
+        )
+    } else {
+        columns::trace_on(
+            ls,
+            left,
+            rs,
+            right,
+            lent,
+            places,
+            sets,
+            parents,
+            letters,
+            run,
+            out,
+        )
+    }
 }
 
-fn trace_rows(
+fn trace_to(
+    on_rows: bool,
     ls: u8,
     left: &[u32],
     rs: u8,
@@ -169,18 +188,17 @@ fn trace_rows(
     state: State,
     out: &mut [u8],
 ) {
-    let run = state.run;
-    let answer = compare::trace_table(
+    let answer = traced(
+        on_rows,
         ls,
         left,
         rs,
         right,
-        state.lent,
         places,
         sets,
         parents,
         letters,
-        run,
+        state,
         out,
     );
     show_tracing(answer, out);
@@ -205,33 +223,19 @@ fn trace(
         print::word(b"bad call\n");
         return;
     }
-    if call.head / 16777216 == 2 {
-        trace_to(
-            ls,
-            left,
-            rs,
-            right,
-            places,
-            sets,
-            parents,
-            letters,
-            state,
-            &mut out[..n],
-        );
-    } else {
-        trace_rows(
-            ls,
-            left,
-            rs,
-            right,
-            places,
-            sets,
-            parents,
-            letters,
-            state,
-            &mut out[..n],
-        );
-    }
+    trace_to(
+        call.head / 16777216 == 10,
+        ls,
+        left,
+        rs,
+        right,
+        places,
+        sets,
+        parents,
+        letters,
+        state,
+        &mut out[..n],
+    );
 }
 
 fn start(

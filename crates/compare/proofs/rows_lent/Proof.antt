@@ -1,4 +1,4 @@
--- `compare::rows_lent`: the least of six numbers, by the contract of `least` at each call. It is written as a chain, since the
+-- `compare::rows_lent`: the least of six numbers, by the contract of `lesser` at each call. It is written as a chain, since the
 -- search has too many cases to split.
 use mathlib.Core.Path.{ap, _∙_}
 use Prim.Native.Nat.{ℕ, min}
@@ -6,20 +6,20 @@ use borrow.Author.Needs.{needs}
 use Rattle.compare.proofs.rows_lent.Statement.{statement}
 use Rattle.compare.proofs.rows_lent.Tie as tie
 
-least-requires : tie.Need-least-requires
-least-requires c κs = search needs
+lesser-requires : tie.Need-lesser-requires
+lesser-requires c κs = search needs
 
-least-requires-2 : tie.Need-least-requires-2
-least-requires-2 c κs = search needs
+lesser-requires-2 : tie.Need-lesser-requires-2
+lesser-requires-2 c κs = search needs
 
-least-requires-3 : tie.Need-least-requires-3
-least-requires-3 c κs = search needs
+lesser-requires-3 : tie.Need-lesser-requires-3
+lesser-requires-3 c κs = search needs
 
-least-requires-4 : tie.Need-least-requires-4
-least-requires-4 c κs = search needs
+lesser-requires-4 : tie.Need-lesser-requires-4
+lesser-requires-4 c κs = search needs
 
-least-requires-5 : tie.Need-least-requires-5
-least-requires-5 c κs = search needs
+lesser-requires-5 : tie.Need-lesser-requires-5
+lesser-requires-5 c κs = search needs
 
 returns : tie.Need-returns
 returns c =
@@ -28,11 +28,11 @@ returns c =
     let s₂ = s₃ .before in
     let s₁ = s₂ .before in
     let a = s₁ .before .args in
-    c .least5 .ensures
-    ∙ ap (λ (k : ℕ). min 65536 k) (s₄ .least4 .ensures
-    ∙ ap (λ (k : ℕ). min (a .lent) k) (s₃ .least3 .ensures
-    ∙ ap (λ (k : ℕ). min (a .places) k) (s₂ .least2 .ensures
-    ∙ ap (λ (k : ℕ). min (a .sets) k) (s₁ .least .ensures))))
+    c .lesser5 .ensures
+    ∙ ap (λ (k : ℕ). min 65536 k) (s₄ .lesser4 .ensures
+    ∙ ap (λ (k : ℕ). min (a .lent) k) (s₃ .lesser3 .ensures
+    ∙ ap (λ (k : ℕ). min (a .places) k) (s₂ .lesser2 .ensures
+    ∙ ap (λ (k : ℕ). min (a .sets) k) (s₁ .lesser .ensures))))
 
 pub rows-lent-spec : {M : Type 1} → statement M
-rows-lent-spec = tie.close (tie.spec least-requires least-requires-2 least-requires-3 least-requires-4 least-requires-5 returns)
+rows-lent-spec = tie.close (tie.spec lesser-requires lesser-requires-2 lesser-requires-3 lesser-requires-4 lesser-requires-5 returns)
