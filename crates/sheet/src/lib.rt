@@ -8,7 +8,7 @@ ghost use lib.Dec.{ltb};
 ghost use lib.ListN.{length, getD};
 ghost use Rattle.effect.specs.Refusals.{rule, front};
 ghost use Rattle.sheet.specs.Bits.{each, field, fields};
-ghost use Rattle.sheet.specs.Sheet.{sheetLength, sheetBits, headerRefusal, exit, left, sheetOf, writing, Reads, Writes};
+ghost use Rattle.sheet.specs.Sheet.{sheetLength, sheetBits, countIn, headerRefusal, exit, left, sheetOf, reading, writing, Reads, Writes};
 
 // What reading a sheet answers: s and the number of nodes, or the refusal.
 pub enum Reading {
@@ -54,6 +54,13 @@ fn length_of(n: usize) -> usize
     ensures { λ r. ⌜ r ≡ sheetLength n ⌝ }
 {
     (12 + 19 * n + 7) / 8
+}
+
+// The length in bytes that a sheet's header gives, however long what follows is.
+pub fn length_by_header(sheet: &[u8]) -> usize
+    ensures { λ r. ⌜ r ≡ sheetLength (countIn (now (sheet .entry))) ⌝ }
+{
+    length_of(field_at(sheet, 4, 8) as usize)
 }
 
 // Refusals 1 to 6, or 0.
@@ -114,6 +121,16 @@ pub fn read(sheet: &[u8], nodes: &mut [u32]) -> Reading
             take_nodes(sheet, n, nodes);
             Reading::Accepted(s, n)
         }
+    }
+}
+
+// The refusal of a reading; number 0 where it was accepted.
+pub fn refusal_of(answer: Reading) -> Refusal
+    ensures { λ r. ⌜ r .number ≡ reading answer .number ⌝ }
+{
+    match answer {
+        Reading::Accepted(_, _) => Refusal { number: 0 },
+        Reading::Refused(r) => r,
     }
 }
 

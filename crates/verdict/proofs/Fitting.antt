@@ -1,0 +1,17 @@
+-- What is printed fits the bytes that hold it.
+use Prim.Native.Nat.{ℕ, _≤_}
+use mathlib.Core.Path.{_≡_, ap, _∙_}
+use mathlib.Core.List.{List}
+use native.Mathlib.Omega.{arith}
+use lib.ListN.{length, drop, replicate, length-append}
+use Rattle.verdict.specs.declared.Lines.{Lines}
+use Rattle.verdict.specs.Program.{linesOf, Prints}
+
+pub lines-fit : (input : List ℕ) (r : Lines) → Prints input r → r .len ≤ length (r .bytes)
+lines-fit input r p =
+    let lines = linesOf input in
+    omega (
+      arith,
+      ap (λ (x : Lines). x .len) p,
+      ap (λ (x : Lines). length (x .bytes)) p ∙ length-append lines (drop (length lines) (replicate 4096 0)),
+    )

@@ -1,0 +1,142 @@
+-- The run of the program: start and one run call, with as many steps as there is room for rows. It is a chain, so it has ended and is right.
+use Prim.Native.Nat.{ℕ, _+_, _≤_}
+use mathlib.Core.Path.{_≡_, refl, sym, ap, ap₂, subst, _∙_}
+use mathlib.Core.Bool.{false}
+use mathlib.Core.Logic.{_⊎_, _≢_}
+use mathlib.Core.List.{List, []}
+use native.Mathlib.Nat.{le-trans}
+use native.Mathlib.Omega.{arith}
+use lib.ListN.{length}
+use Rattle.goals.specs.declared.Row.{Row}
+use Rattle.goals.specs.Run.{State, started, run}
+use Rattle.goals.specs.Refusals.{Given, leftOf, rightOf, roomOf, recordOf, impossibleFor, Against, against, startRefusal, runRefusal, leaves, runAfter}
+use Rattle.demands.specs.Calls.{Lent, usedIn, holding, Runs, ours}
+use Rattle.demands.specs.Demands.{LeftTrace, RightTrace, Chain}
+use Rattle.demands.proofs.Both.{Both}
+use Rattle.demands.proofs.Possible.{possible-iff}
+use Rattle.demands.proofs.Accepting.{start-passes, run-passes}
+use Rattle.demands.proofs.Calling.{after, used-holding}
+use Rattle.demands.proofs.Standing.{chain-standing}
+use Rattle.demands.proofs.Included.{included-only-if}
+use Rattle.demands.proofs.Refuting.{refuted-only-with}
+use Rattle.demands.proofs.Room.{budget-ends}
+use Rattle.demands.proofs.Going.{PossibleFor, ran-possible-after}
+use Rattle.demands.proofs.OneCall.{ready, ready-length, ready-used, accepted, one-call}
+use Rattle.verdict.specs.Program.{endedOn}
+use Rattle.verdict.specs.Core.{traceIn}
+
+-- ---- in any room that start accepts: the program's rows are too many to be written out
+module _ (g : Given) (room : ℕ) (small : room ≤ 65535) (starts : startRefusal g room ≡ against 0 0) where
+  -- the state that the run ends in
+  abbrev pub end : State
+  end = run (leftOf g) (rightOf g) room room started
+
+  pub both : Both g
+  both = start-passes g room .0 starts .0
+
+  some : room ≢ 0
+  some = start-passes g room .0 starts .1
+
+  room-is : roomOf room ≡ room
+  unfolding roomOf
+  room-is = omega (arith, small)
+
+  -- the run call is not refused: what start leaves is possible,
+  started-possible : PossibleFor g (roomOf room) (started .rows) (recordOf started)
+  started-possible = record {
+    some = omega arith;
+    within = let n : room ≢ 0 = some in omega (arith, room-is);
+    settled = omega arith;
+    outcome = omega arith;
+    all = λ e. absurd (omega (arith, e));
+    unsettled = λ l e. omega (arith, e);
+    first = refl;
+    places = λ i h l. absurd (omega (arith, h, l));
+    sets = λ i h l. absurd (omega (arith, h, l));
+    parents = λ i h l. absurd (omega (arith, h, l));
+    letters = λ i h l. absurd (omega (arith, h, l));
+  }
+
+  pub started-passes : runRefusal g room (started .rows) (recordOf started) ≡ against 0 0
+  started-passes =
+      run-passes g room (started .rows) (recordOf started) .1
+      (both, possible-iff (g .ls) (leftOf g .count) (rightOf g .count) (roomOf room) (started .rows) (recordOf started) .1 started-possible)
+
+  -- and leaves that state
+  pub run-ends : runAfter g room (started .rows) (recordOf started) room ≡ end
+  unfolding runAfter
+  run-ends = ap (λ (n : ℕ). run (leftOf g) (rightOf g) n room started) room-is
+
+  -- the same on rows of which each is the start row
+  abbrev l : Lent
+  l = ready room
+
+  used : usedIn l ≡ started .rows
+  used = ready-used room some
+
+  after-is : after g l room ≡ end
+  after-is = ap₂ (λ (n : ℕ) (rows : List Row). runAfter g n rows (recordOf started) room) (ready-length room) used ∙ run-ends
+
+  runs : Runs g l room accepted (holding end l)
+  runs =
+      ap₂ (λ (w : Against) (st : State). leaves w [] (holding st l) l)
+      (sym (ap₂ (λ (n : ℕ) (rows : List Row). runRefusal g n rows (recordOf started)) (ready-length room) used ∙ started-passes))
+      (sym after-is)
+
+  pub end-chain : Chain ours g room (end .rows) (recordOf end) room
+  end-chain =
+      let sum : 0 + room ≡ room = omega arith in
+      subst (λ (rows : List Row). Chain ours g room rows (recordOf end) room) (used-holding end l)
+      (subst (Chain ours g room (usedIn (holding end l)) (recordOf end)) sum (one-call Runs g room room room (holding end l) starts (omega arith) runs))
+
+  pub end-outcome : (end .outcome ≡ 1) ⊎ ((end .outcome ≡ 2) ⊎ (end .outcome ≡ 3))
+  end-outcome = budget-ends g l (holding end l) room accepted runs refl (omega (arith, ap roomOf (ready-length room), room-is))
+
+  end-is-possible : PossibleFor g room (end .rows) (recordOf end)
+  end-is-possible =
+      subst (λ (rows : List Row). PossibleFor g room rows (recordOf end)) (used-holding end l)
+      (subst (λ (n : ℕ). PossibleFor g n (usedIn (holding end l)) (recordOf end)) (ap roomOf (ready-length room) ∙ room-is)
+      (ran-possible-after g l (holding end l) room accepted runs refl))
+
+  -- what a trace call asks of the rows and the record
+  pub end-possible : impossibleFor g room (end .rows) (recordOf end) ≡ false
+  end-possible =
+      possible-iff (g .ls) (leftOf g .count) (rightOf g .count) (roomOf room) (end .rows) (recordOf end) .1
+      (subst (λ (n : ℕ). PossibleFor g n (end .rows) (recordOf end)) (sym room-is) end-is-possible)
+
+  pub end-some : 1 ≤ length (end .rows)
+  end-some = chain-standing g room room (end .rows) (recordOf end) end-chain .kept .some
+
+  pub end-fits : length (end .rows) ≤ room
+  end-fits = end-is-possible .within
+
+  pub end-settled : end .settled ≤ room
+  end-settled = le-trans (end-is-possible .settled) end-fits
+
+-- ---- in the program's room
+pub few : _≤_ 1024 65535
+few = omega arith
+
+module _ (g : Given) (starts : startRefusal g 1024 ≡ against 0 0) where
+  -- start, and a run call of budget 1,024
+  pub ended-chain : Chain ours g 1024 (endedOn g .rows) (recordOf (endedOn g)) 1024
+  ended-chain = end-chain g 1024 few starts
+
+  -- the run has ended: included, refuted or no room
+  pub ended-outcome : (endedOn g .outcome ≡ 1) ⊎ ((endedOn g .outcome ≡ 2) ⊎ (endedOn g .outcome ≡ 3))
+  ended-outcome = end-outcome g 1024 few starts
+
+  -- in the rows there are
+  pub ended-fits : length (endedOn g .rows) ≤ 1024
+  ended-fits = end-fits g 1024 few starts
+
+  pub ended-settled : endedOn g .settled ≤ 1024
+  ended-settled = end-settled g 1024 few starts
+
+  -- included: every trace of the left is one of the right
+  pub included : endedOn g .outcome ≡ 1 → (w : List ℕ) → LeftTrace g w → RightTrace g w
+  included = included-only-if g 1024 1024 (endedOn g .rows) (recordOf (endedOn g)) ended-chain
+
+  -- refuted: its trace is one of the left and none of the right
+  pub refuted : endedOn g .outcome ≡ 2 → LeftTrace g (traceIn g) × (RightTrace g (traceIn g) → ⊥)
+  refuted = refuted-only-with g 1024 1024 (endedOn g .rows) (recordOf (endedOn g)) ended-chain

@@ -1,0 +1,47 @@
+-- "The program": from the bytes of the input to the bytes of the output.
+use Prim.Native.Nat.{ℕ}
+use mathlib.Core.Path.{_≡_}
+use mathlib.Core.Bool.{cond, not}
+use mathlib.Core.List.{List, [], _∷_}
+use lib.Dec.{eqb}
+use lib.ListN.{length, take, drop, replicate}
+use Rattle.effect.specs.Refusals.{rule, front}
+use Rattle.sheet.specs.Sheet.{sheetLength, signalsIn, countIn, nodesIn, readRefusal}
+use Rattle.goals.specs.Run.{State, started, run}
+use Rattle.goals.specs.Refusals.{Given, given, leftOf, rightOf, Against, against, first}
+use Rattle.verdict.specs.declared.Lines.{Lines}
+use Rattle.verdict.specs.Lines.{refusedLine, endedLines}
+
+-- "the left sheet, whose header gives its length, then all the rest as the right"
+abbrev pub leftSheet : List ℕ → List ℕ
+leftSheet input = take (sheetLength (countIn input)) input
+
+abbrev pub rightSheet : List ℕ → List ℕ
+rightSheet input = drop (sheetLength (countIn input)) input
+
+abbrev pub sidesIn : List ℕ → Given
+sidesIn input =
+    given (signalsIn (leftSheet input)) (nodesIn (leftSheet input)) (signalsIn (rightSheet input)) (nodesIn (rightSheet input))
+
+-- "If the left header is itself refused (1 to 3), that is the answer; if the input ends before the left sheet does, it is left 4. The
+-- reader's refusals stand as for the sheets, left before right", then 14 for both. (The reader is lent tables of 255 nodes, so that no
+-- sheet gives 6.)
+unfoldable pub refusalIn : List ℕ → Against
+refusalIn input =
+    first
+    (against 1 (readRefusal (leftSheet input) 255)
+    ∷ against 2 (readRefusal (rightSheet input) 255)
+    ∷ against 3 (rule 14 (not (eqb (sidesIn input .ls) (sidesIn input .rs))))
+    ∷ [])
+
+-- "Room is 1,024 rows." A run ends within as many steps as it has room for rows.
+abbrev pub endedOn : Given → State
+endedOn g = run (leftOf g) (rightOf g) 1024 1024 started
+
+-- all that is printed
+unfoldable pub linesOf : List ℕ → List ℕ
+linesOf input = cond (eqb (refusalIn input .number) 0) (endedLines (endedOn (sidesIn input))) (refusedLine (refusalIn input))
+
+-- the promise of `verdict`: the lines at the front of the bytes, zeros behind them, and how many there are
+abbrev pub Prints : List ℕ → Lines → Type 0
+Prints input r = r ≡ record { bytes = front (linesOf input) (replicate 4096 0); len = length (linesOf input) }
