@@ -3,7 +3,7 @@
 
 The rules here are document 01's, and no code is shared with the crates: a node table
 becomes a tree, and a set of places is a set of numbers, gathered from the tree. Whether a table is
-refused is asked of sheets.py. What the program try_places must print is made here and never taken
+refused is asked of sheets.py. What the program try_calls must print is made here and never taken
 from the program.
 
     places.py named INPUT EXPECTED               the named vectors
@@ -12,7 +12,7 @@ from the program.
     places.py traces SEED COUNT                  no vectors: COUNT small random tables, whose places
                                                  must take the traces that "Meaning" says
 
-A record is a line of hexadecimal digits (numbers big-endian, white space ignored):
+A record is a line of the letter p and hexadecimal digits (numbers big-endian, white space ignored):
 
     00 SS NNNN nodes   the side of s and N nodes, or the refusal and the side beside it, all zeros
     01 SS NNNN nodes   for each letter, ascending, the set of that side's places that match it
@@ -200,6 +200,8 @@ def matching_line(side):
 
 
 class Vectors(sheets.Vectors):
+    letter = 'p'
+
     def table(self, s, nodes, letters=True, expect=None):
         """The side of a table and, unless letters is False, the places that match each letter. A named
         vector says by `expect` which refusal document 01 asks for, 0 for none."""
@@ -209,10 +211,10 @@ class Vectors(sheets.Vectors):
         side = None if refusal else Side(s, nodes)
         self.seen.add(refusal)
         given = '%02x %04x' % (s, len(nodes)) + sheets.hex_numbers(nodes)
-        self.input.append('00 ' + given)
+        self.ask('00 ' + given)
         self.expected += refused_lines(refusal) if refusal else side_lines(side)
         if letters:
-            self.input.append('01 ' + given)
+            self.ask('01 ' + given)
             self.expected.append('matching refused %d' % refusal if refusal else matching_line(side))
 
     def refused(self, title, s, nodes, refusal):
@@ -423,15 +425,17 @@ def named():
                     refusals, limits):
         section(v)
     assert v.seen == {0, 2, 3, *range(7, 13)}
-    v.title('a record that says more than it has ends the run')
-    v.input += ['00 01 0002 00020100', '00 00 0001 00010000']
-    v.expected.append('bad record')
     return v
 
 
 def large():
     v = Vectors()
     named_large(v)
+    # It stands here, since after the named vectors the program is asked those of goals.
+    v.title('a record that says more than it has ends the run')
+    v.ask('00 01 0002 00020100')
+    v.ask('00 00 0001 00010000')
+    v.expected.append('bad record')
     return v
 
 

@@ -4,7 +4,7 @@
 The rules here are document 01's, and no code is shared with the crates; but this was not written
 blind: the definitions and the code of the crate goals were known. Sides are asked of places.py,
 refusals of a table of sheets.py. Verdicts and traces are held to another method, which
-knows neither places nor rows: derivatives of the effects by letters. What the program try_goals must
+knows neither places nor rows: derivatives of the effects by letters. What the program try_calls must
 print is made here and never taken from the program.
 
     runs.py named INPUT EXPECTED               the named vectors
@@ -16,8 +16,8 @@ print is made here and never taken from the program.
 With `rows` before the other words every call is made on a table of rows and not on columns; what must
 be printed is the same.
 
-A record is a line of hexadecimal digits (numbers big-endian, white space ignored): the sides, what
-is lent, and the calls, which are made one after the other on the same columns and the same run record.
+A record is a line of the letter g and hexadecimal digits (numbers big-endian, white space ignored): the
+sides, what is lent, and the calls, which are made one after the other on the same columns and the same run record.
 
     LL RR NNNN 0000MMMM lent(16) places(8) sets(8) parents(8) letters(8) nodes calls
 
@@ -355,7 +355,7 @@ class Record:
 
     def save(self):
         assert len(''.join(self.given.split())) <= LONGEST_RECORD
-        self.vectors.input.append(self.given)
+        self.vectors.ask(self.given)
         self.vectors.expected += self.printed
 
     def no_call(self, head, *numbers):
@@ -430,6 +430,7 @@ class Record:
 
 
 class Vectors(sheets.Vectors):
+    letter = 'g'
     on_rows = False  # every call is made on a table of rows
 
     def __init__(self):
@@ -626,7 +627,8 @@ def named():
     r.printed += ['bad call'] * 2
     r.run(1, (1, 1, INCLUDED)).save()
     v.title('a record that says more than it has ends the run')
-    v.input += ['00000001 00000001 0000000000000001 00000001000000010000000100000001 00010000', v.input[1]]
+    v.ask('00000001 00000001 0000000000000001 00000001000000010000000100000001 00010000')
+    v.input.append(v.input[1])
     v.expected.append('bad record')
     return v
 

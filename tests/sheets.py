@@ -3,13 +3,13 @@
 
 Everything here is written from document 01 alone and shares nothing with the crates: a sheet is a
 text of '0' and '1', and a refusal is looked for by its sentence, over the whole table at once. What
-the program try_sheet must print is made here and never taken from the program.
+the program try_calls must print is made here and never taken from the program.
 
     sheets.py named INPUT EXPECTED               the named vectors
     sheets.py large INPUT EXPECTED               more of them, faults in large tables
     sheets.py random SEED COUNT INPUT EXPECTED   COUNT random records, the same for the same SEED
 
-A record is a line of hexadecimal digits (numbers big-endian, white space ignored):
+A record is a line of the letter s and hexadecimal digits (numbers big-endian, white space ignored):
 
     00 LLLL TTTT sheet     read a sheet of L bytes into a table lent with T entries
     01 SS NNNN OOOO nodes  write s and N nodes to an output lent with O bytes
@@ -23,7 +23,7 @@ table is c0de0000 + k beforehand, and each byte of a lent output is ee.
 import random
 import sys
 
-INPUT_ROOM = 65535  # the program reads no more than this
+INPUT_ROOM = 65535  # the program reads 131,072 bytes, since the named vectors of all three makers are one input
 LONGEST_SHEET, LONGEST_TABLE = 700, 300  # what a record of the program may ask for
 
 # ---- nodes: kind 3 bits, a 8 bits, b 8 bits
@@ -166,6 +166,8 @@ def hex_numbers(numbers):
 
 
 class Vectors:
+    letter = 's'  # says to the program whose a record is
+
     def __init__(self):
         self.input, self.expected, self.seen = [], [], set()
 
@@ -173,13 +175,16 @@ class Vectors:
         self.input.append('# ' + text)
         self.expected.append('# ' + text)
 
+    def ask(self, given):
+        self.input.append(self.letter + given)
+
     def record(self, what, given, printed, refusal, expect):
         """A named vector says by `expect` which refusal document 01 asks for, 0 for none, and the
         rules above must agree. A random one has no such second opinion: expect is None."""
         if expect is not None and expect != refusal:
             sys.exit('sheets.py: %s %s: named %s, but by the rules %s' % (what, given, expect, refusal))
         self.seen.add((what, refusal))
-        self.input.append(given)
+        self.ask(given)
         self.expected.append(what + ' ' + printed)
 
     def read(self, sheet, lent, expect=None):
@@ -229,7 +234,7 @@ class Vectors:
     def save(self, input_file, expected_file):
         text = '\n'.join(self.input) + '\n'
         if len(text) > INPUT_ROOM:
-            sys.exit('sheets.py: %d bytes of input, and the program reads %d' % (len(text), INPUT_ROOM))
+            sys.exit('sheets.py: %d bytes of input, and a maker has room for %d' % (len(text), INPUT_ROOM))
         with open(input_file, 'w') as f:
             f.write(text)
         with open(expected_file, 'w') as f:
@@ -503,15 +508,17 @@ def named():
         section(v)
     for what, numbers in [('read', range(13)), ('write', [0, 2, 3, *range(7, 14)]), ('check', [0, 2, 3, *range(7, 13)])]:
         assert {n for w, n in v.seen if w == what} == set(numbers), what
-    v.title('a record that says more than it has ends the run')
-    v.input += ['00 0004 0001 001200', '03 00000000']
-    v.expected.append('bad record')
     return v
 
 
 def named_large():
     v = Vectors()
     large(v)
+    # It stands here, since after the named vectors the program is asked those of places and goals.
+    v.title('a record that says more than it has ends the run')
+    v.ask('00 0004 0001 001200')
+    v.ask('03 00000000')
+    v.expected.append('bad record')
     return v
 
 

@@ -1,6 +1,6 @@
 -- Each promise fixes what a call leaves: two results that meet the promise of `start_on`, `run_on` or `trace_on` are equal. An
 -- answer's refusal and values tell every case of a result from every other.
-use Prim.Native.Nat.{ℕ, min}
+use Prim.Native.Nat.{ℕ}
 use mathlib.Core.Path.{_≡_, refl, sym, ap, _∙_}
 use mathlib.Core.List.{List}
 use native.Mathlib.Omega.{arith}
@@ -63,6 +63,3 @@ run-one g lent c d d′ held budget r r′ p q = let e = left-one (p ∙ sym q) 
 
 pub trace-one : (g : Given) (lent : ℕ) (c : Columns) (held : Run) (out o o′ : List ℕ) (r r′ : Tracing) → Traces g lent c held out r o → Traces g lent c held out r′ o′ → (r ≡ r′) × (o ≡ o′)
 trace-one g lent c held out o o′ r r′ p q = let e = left-one (p ∙ sym q) in (tracing-one r r′ (e .0), e .1)
-
-pub lesser-one : (a b r r′ : ℕ) → r ≡ min a b → r′ ≡ min a b → r ≡ r′
-lesser-one a b r r′ p q = p ∙ sym q

@@ -9,7 +9,7 @@ use places::Side;
 ghost use mathlib.Core.Path.{_≡_};
 ghost use mathlib.Core.Bool.{_&&_, not, cond};
 ghost use mathlib.Core.List.{[], _∷_};
-ghost use Prim.Native.Nat.{ℕ, _+_, _<_, _≤_, _^_, min};
+ghost use Prim.Native.Nat.{ℕ, _+_, _<_, _≤_, _^_};
 ghost use lib.Dec.{eqb};
 ghost use lib.ListN.{length, getD};
 ghost use Rattle.bits.specs.Bit.{has};
@@ -17,7 +17,7 @@ ghost use Rattle.effect.specs.Refusals.{rule, someBelow, front};
 ghost use Rattle.goals.specs.Goals.{row, eachMember, eachLetter, bad, enter, enterAll};
 ghost use Rattle.goals.specs.Run.{step, steps, run};
 ghost use Rattle.goals.specs.Refusals.{given, rowImpossible, impossible, against, againstOf, first};
-ghost use Rattle.columns.specs.Calls.{columns, rowAt, rowsIn, lentIn, stateOf, Starts, Runs, Traces};
+ghost use Rattle.columns.specs.Calls.{columns, rowAt, rowsIn, stateOf, Starts, Runs, Traces};
 ghost use Rattle.columns.specs.Core.{Fits, Enters, entering, lettered, Ready, Steps, Runnable, refusedBy, Prepares, Rooted, climb};
 
 // What start and run answer: the record of the run, or the refusal.
@@ -503,22 +503,6 @@ fn sides_of(ls: u8, left: &[u32], rs: u8, right: &[u32]) -> Sides
     }
 }
 
-// Of the rows lent and the lengths of columns the least one counts.
-pub fn lesser(a: usize, b: usize) -> usize
-    ensures { λ r. ⌜ r ≡ min a b ⌝ }
-{
-    if a < b { a } else { b }
-}
-
-// How many rows are lent: no more than the shortest column has.
-fn lent_in(lent: usize, places: &[u8], sets: &[u64], parents: &[u16], letters: &[u16]) -> usize
-    ensures { λ r. ⌜ r ≡ lentIn lent (columns (now (places .entry)) (now (sets .entry)) (now (parents .entry)) (now (letters .entry))) ⌝ }
-{
-    let later = lesser(parents.len(), letters.len());
-    let columns = lesser(places.len(), lesser(sets.len(), later));
-    lesser(lent, columns)
-}
-
 // Begins a run: writes row 0 and answers the record.
 pub fn start_on(
     ls: u8,
@@ -538,7 +522,7 @@ pub fn start_on(
     if why.refusal.number != 0 {
         return Called::Refused(why);
     }
-    let rows = lent_in(lent, places, sets, parents, letters);
+    let rows = goals::shortest(lent, places.len(), sets.len(), parents.len(), letters.len());
     if rows == 0 {
         return Called::Refused(both(15));
     }
@@ -576,7 +560,8 @@ pub fn run_on(
     }
     let on_left = prepared.left;
     let on_right = prepared.right;
-    let room = goals::room_of(lent_in(lent, places, sets, parents, letters));
+    let rows = goals::shortest(lent, places.len(), sets.len(), parents.len(), letters.len());
+    let room = goals::room_of(rows);
     let m = on_left.count;
     let k = on_right.count;
     if is_impossible(places, sets, parents, letters, room, ls, m, k, run) {
@@ -649,7 +634,8 @@ pub fn trace_on(
     }
     let on_left = prepared.left;
     let on_right = prepared.right;
-    let room = goals::room_of(lent_in(lent, places, sets, parents, letters));
+    let rows = goals::shortest(lent, places.len(), sets.len(), parents.len(), letters.len());
+    let room = goals::room_of(rows);
     let m = on_left.count;
     let k = on_right.count;
     if is_impossible(places, sets, parents, letters, room, ls, m, k, run) {

@@ -3,13 +3,14 @@
 // Behind them the same calls on a table of their own, made of columns: what a program calls.
 use columns::Called;
 use columns::Tracing;
-use columns::lesser;
 use columns::run_on;
 use columns::start_on;
 use columns::trace_on;
 use goals::Row;
 use goals::Run;
 use goals::SideRefusal;
+use goals::lesser;
+use goals::shortest;
 ghost use mathlib.Core.Path.{_≡_};
 ghost use Prim.Native.Nat.{_≤_, min};
 ghost use lib.ListN.{length, take};
@@ -264,9 +265,7 @@ pub struct Told {
 fn rows_lent(lent: usize, places: usize, sets: usize, parents: usize, letters: usize) -> usize
     ensures { λ r. ⌜ r ≡ min 65536 (min lent (min places (min sets (min parents letters)))) ⌝ }
 {
-    let later = lesser(parents, letters);
-    let columns = lesser(places, lesser(sets, later));
-    lesser(65536, lesser(lent, columns))
+    lesser(65536, shortest(lent, places, sets, parents, letters))
 }
 
 // Start, where the run begins, or else a run call.

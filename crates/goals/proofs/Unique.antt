@@ -1,5 +1,5 @@
 -- Any two results that meet a promise are equal: each promise is an equation of the result.
-use Prim.Native.Nat.{ℕ}
+use Prim.Native.Nat.{ℕ, min}
 use mathlib.Core.Path.{_≡_, sym, _∙_}
 use mathlib.Core.Bool.{Bool}
 use mathlib.Core.List.{List}
@@ -34,3 +34,9 @@ row-impossible-one s m k i w r r′ e f = e ∙ sym f
 
 pub room-of-one : (lent r r′ : ℕ) → r ≡ roomOf lent → r′ ≡ roomOf lent → r ≡ r′
 room-of-one lent r r′ e f = e ∙ sym f
+
+pub lesser-one : (a b r r′ : ℕ) → r ≡ min a b → r′ ≡ min a b → r ≡ r′
+lesser-one a b r r′ p q = p ∙ sym q
+
+pub shortest-one : (lent places sets parents letters r r′ : ℕ) → r ≡ min lent (min places (min sets (min parents letters))) → r′ ≡ min lent (min places (min sets (min parents letters))) → r ≡ r′
+shortest-one lent places sets parents letters r r′ p q = p ∙ sym q

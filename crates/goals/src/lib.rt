@@ -3,6 +3,7 @@ use effect::Refusal;
 use places::Side;
 ghost use mathlib.Core.Path.{_≡_};
 ghost use mathlib.Core.Bool.{cond};
+ghost use Prim.Native.Nat.{min};
 ghost use lib.ListN.{getD};
 ghost use Rattle.bits.specs.Bit.{has};
 ghost use Rattle.places.specs.Readings.{spreadTo};
@@ -113,6 +114,22 @@ pub fn row_impossible(s: u8, m: u8, k: u8, i: usize, w: Row) -> bool
     ((w.place == 0) | (m < w.place))
         | ((bits::has(w.set, 0) | !bits::within(w.set, k as u64 + 1))
             | ((i <= w.parent as usize) | !bits::within(w.letter as u64, s as u64)))
+}
+
+// The lesser of two numbers.
+pub fn lesser(a: usize, b: usize) -> usize
+    ensures { λ r. ⌜ r ≡ min a b ⌝ }
+{
+    if a < b { a } else { b }
+}
+
+// How many rows are lent: as many as the caller says, and no more than the shortest column has.
+pub fn shortest(lent: usize, places: usize, sets: usize, parents: usize, letters: usize) -> usize
+    ensures { λ r. ⌜ r ≡ min lent (min places (min sets (min parents letters))) ⌝ }
+{
+    let later = lesser(parents, letters);
+    let columns = lesser(places, lesser(sets, later));
+    lesser(lent, columns)
 }
 
 // The room of that many rows lent.

@@ -1,4 +1,4 @@
-// The program: reads the input, and prints what the crate verdict answers to it.
+// The program. "It reads at most 1,217 bytes from standard input", and prints what the crate verdict answers to them.
 fn main() {
     let mut input: [u8; 1217] = [0; 1217];
     let n = io::read_full(0, &mut input);

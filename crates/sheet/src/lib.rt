@@ -56,7 +56,7 @@ fn length_of(n: usize) -> usize
     (12 + 19 * n + 7) / 8
 }
 
-// The length in bytes that a sheet's header gives, however long what follows is.
+// The length in bytes that a sheet's header gives, however long what follows is. Bits past the end count as zeros.
 pub fn length_by_header(sheet: &[u8]) -> usize
     ensures { λ r. ⌜ r ≡ sheetLength (countIn (now (sheet .entry))) ⌝ }
 {

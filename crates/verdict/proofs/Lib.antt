@@ -5,3 +5,6 @@ pub mod Tracing
 pub mod Parting
 pub mod Printing
 pub mod Fitting
+pub mod Meaning
+pub mod Worked
+pub mod Unique

@@ -1,5 +1,5 @@
 -- The input's parting into two sheets, what the reader says of each, and the lines that follow.
-use Prim.Native.Nat.{ℕ, _-_, _≤_, min}
+use Prim.Native.Nat.{ℕ, _-_, min}
 use mathlib.Core.Path.{_≡_, refl, sym, ap, ap₂, _∙_}
 use mathlib.Core.Bool.{Bool, true, false, cond, not}
 use mathlib.Core.List.{List, [], _∷_}
@@ -15,7 +15,7 @@ use Rattle.effect.proofs.Laws.{rule-none}
 use Rattle.sheet.specs.declared.Reading.{Reading}
 use Rattle.sheet.specs.declared.Reading.the-variants as reading-variants
 use Rattle.effect.specs.declared.Refusal.{Refusal}
-use Rattle.sheet.specs.Sheet.{sheetLength, signalsIn, countIn, nodesIn, readRefusal, Left, exit, left, reading, readOf, Reads}
+use Rattle.sheet.specs.Sheet.{signalsIn, countIn, nodesIn, readRefusal, Left, exit, left, reading, readOf, Reads}
 use Rattle.sheet.proofs.Header.{count-lt, length-nodes}
 use Rattle.sheet.proofs.Accepted.{read-none, side-none}
 use Rattle.goals.specs.Refusals.{Against, against, first, startRefusal}
@@ -93,11 +93,11 @@ side-accepted sheet h =
     }
 
 -- the first of the rules, where the one before is none, and where it is one
-skip : (side n : ℕ) (rest : List Against) → n ≡ 0 → first (against side n ∷ rest) ≡ first rest
+pub skip : (side n : ℕ) (rest : List Against) → n ≡ 0 → first (against side n ∷ rest) ≡ first rest
 unfolding first
 skip side n rest e = ap (λ (k : ℕ). cond (eqb k 0) (first rest) (against side k)) e
 
-here : (side n : ℕ) (rest : List Against) → eqb n 0 ≡ false → first (against side n ∷ rest) ≡ against side n
+pub here : (side n : ℕ) (rest : List Against) → eqb n 0 ≡ false → first (against side n ∷ rest) ≡ against side n
 unfolding first
 here side n rest e = ap (λ (b : Bool). cond b (first rest) (against side n)) e
 
@@ -124,7 +124,7 @@ no-fifteen : (n : ℕ) → first (against 3 n ∷ against 3 (rule 15 (eqb 1024 0
 unfolding first
 no-fifteen n = ap (λ (k : ℕ). first (against 3 n ∷ against 3 k ∷ [])) (rule-none 14 (eqb 1024 0) .1 refl)
 
-start-is : (input : List ℕ) → readRefusal (leftSheet input) 255 ≡ 0 → readRefusal (rightSheet input) 255 ≡ 0 → startRefusal (sidesIn input) 1024 ≡ refusalIn input
+pub start-is : (input : List ℕ) → readRefusal (leftSheet input) 255 ≡ 0 → readRefusal (rightSheet input) 255 ≡ 0 → startRefusal (sidesIn input) 1024 ≡ refusalIn input
 unfolding refusalIn startRefusal
 start-is input l r =
     skip 1 _ _ (side-accepted (leftSheet input) l) ∙ skip 2 _ _ (side-accepted (rightSheet input) r)

@@ -2,14 +2,13 @@
 use Prim.Native.Nat.{ℕ, _≤_}
 use mathlib.Core.Path.{_≡_, refl, sym, ap, ap₂, _∙_}
 use mathlib.Core.Logic.{_≢_}
-use mathlib.Core.Bool.{Bool, true, false, cond}
+use mathlib.Core.Bool.{Bool, false, cond}
 use mathlib.Core.List.{List, [], _++_, append-nil}
 use native.Mathlib.Omega.{arith}
 use lib.Dec.{eqb}
-use lib.ListN.{length, take}
+use lib.ListN.{length, getD, take}
 use lib.Seq.{take-at}
 use borrow.Author.Tests.{eq-eqb, ne-eqb}
-use Rattle.effect.specs.Refusals.{front}
 use Rattle.goals.specs.declared.Run.{Run}
 use Rattle.goals.specs.Refusals.{Given, Against, against, startRefusal, recordOf}
 use Rattle.columns.specs.declared.Tracing.{Tracing}
@@ -74,7 +73,7 @@ pub record Lettered (g : Given) (n : ℕ) (word : List ℕ) : Type 0 where
 
 number-of : (m n : ℕ) → tracing-variants.Accepted m ≡ tracing-variants.Accepted n → m ≡ n
 unfolding tracing
-number-of m n e = cc (ap (λ (x : Tracing). tracing x .values) e)
+number-of m n e = ap (λ (x : Tracing). getD (tracing x .values) 0 0) e
 
 pub trace-lettered :
     (g : Given) (c : Columns) (r : Run) (answer : Tracing) (out out′ : List ℕ) (n : ℕ) → answer ≡ tracing-variants.Accepted n → Ended g c r → r .outcome ≡ 2

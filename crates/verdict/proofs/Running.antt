@@ -1,4 +1,5 @@
--- The run of the program: start and one run call, with as many steps as there is room for rows. It is a chain, so it has ended and is right.
+-- The run of the program: start and one run call, with as many steps as there is room for rows, which end it. It is a chain of calls, so what is
+-- demanded of one holds of it.
 use Prim.Native.Nat.{ℕ, _+_, _≤_}
 use mathlib.Core.Path.{_≡_, refl, sym, ap, ap₂, subst, _∙_}
 use mathlib.Core.Bool.{false}
@@ -126,7 +127,7 @@ module _ (g : Given) (starts : startRefusal g 1024 ≡ against 0 0) where
   pub ended-outcome : (endedOn g .outcome ≡ 1) ⊎ ((endedOn g .outcome ≡ 2) ⊎ (endedOn g .outcome ≡ 3))
   ended-outcome = end-outcome g 1024 few starts
 
-  -- in the rows there are
+  -- it uses no more rows than there are
   pub ended-fits : length (endedOn g .rows) ≤ 1024
   ended-fits = end-fits g 1024 few starts
 

@@ -19,6 +19,7 @@ leftSheet input = take (sheetLength (countIn input)) input
 abbrev pub rightSheet : List ℕ → List ℕ
 rightSheet input = drop (sheetLength (countIn input)) input
 
+-- what stands in the two sheets: s and the nodes of each side
 abbrev pub sidesIn : List ℕ → Given
 sidesIn input =
     given (signalsIn (leftSheet input)) (nodesIn (leftSheet input)) (signalsIn (rightSheet input)) (nodesIn (rightSheet input))
@@ -34,9 +35,13 @@ refusalIn input =
     ∷ against 3 (rule 14 (not (eqb (sidesIn input .ls) (sidesIn input .rs))))
     ∷ [])
 
--- "Room is 1,024 rows." A run ends within as many steps as it has room for rows.
+-- "Room is 1,024 rows."
+abbrev pub room : ℕ
+room = 1024
+
+-- the state in which a run ends that has as many steps as room for rows: never an open one (`never-open`)
 abbrev pub endedOn : Given → State
-endedOn g = run (leftOf g) (rightOf g) 1024 1024 started
+endedOn g = let steps = room in run (leftOf g) (rightOf g) room steps started
 
 -- all that is printed
 unfoldable pub linesOf : List ℕ → List ℕ

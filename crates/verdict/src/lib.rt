@@ -1,14 +1,13 @@
 // The program's answer: from the bytes of the input to the bytes of the output.
 use columns::Called;
 use columns::Tracing;
-use columns::lesser;
 use columns::run_on;
 use columns::start_on;
 use columns::trace_on;
-use effect::Refusal;
 use goals::Run;
 use goals::SideRefusal;
 use goals::Which;
+use goals::lesser;
 use sheet::Reading;
 ghost use mathlib.Core.Path.{_≡_};
 ghost use Prim.Native.Nat.{_+_, _*_, _<_, _≤_};
@@ -19,13 +18,19 @@ ghost use Rattle.verdict.specs.Lines.{digit, decimal, letter, letters, o
 ghost use Rattle.verdict.specs.Program.{endedOn, linesOf, Prints};
 ghost use Rattle.verdict.specs.Core.{Puts, Decides, Ended, traceIn, comparisonLines, readingNumber};
 
+// How many rows a run has room for, and how many steps it gets. As many steps as rows end any run.
+const ROOM: usize = 1024;
+
+const STEPS: u64 = 1024;
+
 // What is printed: the first `len` of the bytes.
 pub struct Lines {
     pub bytes: [u8; 4096],
     pub len: usize,
 }
 
-// Puts a text in the output from place `at` on and answers the place behind it, as all functions here do that put something.
+// Puts a text in the output from place `at` on, or from its front, and answers the place behind it, as all functions here do that put
+// something.
 fn put_text(text: &[u8], at: usize, out: &mut [u8]) -> usize
     requires { ⌜ at + length (now text) ≤ length (now out) ⌝ }
     ensures { λ r. ⌜ Puts (now (text .entry)) at (now (out .entry)) r (now (out .exit)) ⌝ }
@@ -148,7 +153,7 @@ fn put_refused(why: SideRefusal, out: &mut [u8]) -> usize
     put_text(b"\n", d, out)
 }
 
-// Begins a run and ends it: it has as many steps as there is room for rows.
+// Begins a run and goes on with it to its end.
 fn decide(
     ls: u8,
     left: &[u32],
@@ -162,7 +167,7 @@ fn decide(
     requires { ⌜ lentIn 1024 (columns (now places) (now sets) (now parents) (now letters)) ≡ 1024 ⌝ }
     ensures { λ r. ⌜ Decides (given ls (now (left .entry)) rs (now (right .entry))) (columns (now (places .entry)) (now (sets .entry)) (now (parents .entry)) (now (letters .entry))) r (columns (now (places .exit)) (now (sets .exit)) (now (parents .exit)) (now (letters .exit))) ⌝ }
 {
-    let begun = start_on(ls, left, rs, right, 1024, places, sets, parents, letters);
+    let begun = start_on(ls, left, rs, right, ROOM, places, sets, parents, letters);
     let Called::Accepted(held) = begun else {
         return begun;
     };
@@ -171,13 +176,13 @@ fn decide(
         left,
         rs,
         right,
-        1024,
+        ROOM,
         places,
         sets,
         parents,
         letters,
         held,
-        1024,
+        STEPS,
     )
 }
 
@@ -205,7 +210,7 @@ fn put_trace_of(
         left,
         rs,
         right,
-        1024,
+        ROOM,
         places,
         sets,
         parents,

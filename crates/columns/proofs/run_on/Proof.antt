@@ -17,17 +17,17 @@ columns-at s = let a = s .before .before .before .before .before .before .before
 
 -- that place, seen from where the room is known, and from where 16 was asked
 abbrev before-room : tie.After-room-of → tie.After-sides-of
-before-room q = q .before .before .before .before .before .before .before .before .before .before .before
+before-room q = q .before .before .before .before .before .before .before
 
 abbrev before-asked : tie.After-is-impossible → tie.After-sides-of
 before-asked i = before-room (i .before .before .before .before .before)
 
 -- the sides pass, and the room is that of the rows lent
 passed : (q : tie.After-room-of) → before-room q .sides-of .result .why .refusal .number ≡ 0
-passed q = q .before .before .before .before .before .before .before .before .if1 .left
+passed q = q .before .before .before .before .if1 .left
 
 room-is : (q : tie.After-room-of) → let s = before-room q in q .room-of .result ≡ roomOf (lentIn (s .before .before .before .before .before .before .before .args .lent) (columns-at s))
-room-is q = q .room-of .ensures ∙ ap roomOf (q .before .lent-in .ensures)
+room-is q = q .room-of .ensures ∙ ap roomOf (q .before .shortest .ensures)
 
 -- 16 as it was asked is 16 of what was given and lent
 asked : (i : tie.After-is-impossible) → let s = before-asked i in let r = s .before .before .before .before .before .before .before .args .run in
@@ -49,8 +49,8 @@ returns c =
     let a = s .before .before .before .before .before .before .before .args in
     run-refused (given-at s) (s .sides-of .result) (s .sides-of .ensures) (a .lent) (columns-at s) (a .run) (a .budget) (c .if1 .taken)
 
-lent-in-requires : tie.Need-lent-in-requires
-lent-in-requires c κs = search needs
+shortest-requires : tie.Need-shortest-requires
+shortest-requires c κs = search needs
 
 room-of-requires : tie.Need-room-of-requires
 room-of-requires c κs = search needs
@@ -125,7 +125,7 @@ run-on-spec =
     (tie.spec
     sides-of-requires
     returns
-    lent-in-requires
+    shortest-requires
     room-of-requires
     is-impossible-requires
     both-requires

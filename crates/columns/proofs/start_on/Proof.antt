@@ -18,34 +18,22 @@ returns c =
     (given (a .ls) (a .left .now) (a .rs) (a .right .now)) (s .sides-of .result) (s .sides-of .ensures) (a .lent)
     (columns (a .places .now) (a .sets .now) (a .parents .now) (a .letters .now)) (c .if1 .taken)
 
-lent-in-requires : tie.Need-lent-in-requires
-lent-in-requires c κs = search needs
+shortest-requires : tie.Need-shortest-requires
+shortest-requires c κs = search needs
 
 both-requires : tie.Need-both-requires
 both-requires c κs = search needs
 
-same-length : tie.Need-same-length
-same-length c = search needs
-
-same-length-2 : tie.Need-same-length-2
-same-length-2 c = search needs
-
-same-length-3 : tie.Need-same-length-3
-same-length-3 c = search needs
-
-same-length-4 : tie.Need-same-length-4
-same-length-4 c = search needs
-
 returns-2 : tie.Need-returns-2
 returns-2 c =
     let l = c .before .before in
-    let n = l .before .before .before .before .before in
+    let n = l .before in
     let s = n .before .before .before in
     let a = s .before .before .before .before .before .before .before .args in
     start-none
     (given (a .ls) (a .left .now) (a .rs) (a .right .now)) (s .sides-of .result) (s .sides-of .ensures) (a .lent)
     (columns (a .places .now) (a .sets .now) (a .parents .now) (a .letters .now)) (n .if1 .left) (c .both .result) (c .both .ensures)
-    (sym (l .lent-in .ensures) ∙ c .before .if2 .taken)
+    (sym (l .shortest .ensures) ∙ c .before .if2 .taken)
 
 slice-write-places : tie.Need-slice-write-places
 slice-write-places c = search needs
@@ -59,28 +47,28 @@ slice-write-parents c = search needs
 slice-write-letters : tie.Need-slice-write-letters
 slice-write-letters c = search needs
 
-same-length-5 : tie.Need-same-length-5
-same-length-5 c = search needs
+same-length : tie.Need-same-length
+same-length c = search needs
 
-same-length-6 : tie.Need-same-length-6
-same-length-6 c = search needs
+same-length-2 : tie.Need-same-length-2
+same-length-2 c = search needs
 
-same-length-7 : tie.Need-same-length-7
-same-length-7 c = search needs
+same-length-3 : tie.Need-same-length-3
+same-length-3 c = search needs
 
-same-length-8 : tie.Need-same-length-8
-same-length-8 c = search needs
+same-length-4 : tie.Need-same-length-4
+same-length-4 c = search needs
 
 returns-3 : tie.Need-returns-3
 returns-3 c =
     let l = c .before in
-    let n = l .before .before .before .before .before in
+    let n = l .before in
     let s = n .before .before .before in
     let a = s .before .before .before .before .before .before .before .args in
     start-done
     (given (a .ls) (a .left .now) (a .rs) (a .right .now)) (s .sides-of .result) (s .sides-of .ensures) (a .lent)
     (columns (a .places .now) (a .sets .now) (a .parents .now) (a .letters .now)) (n .if1 .left)
-    (λ q. c .if2 .left (l .lent-in .ensures ∙ q))
+    (λ q. c .if2 .left (l .shortest .ensures ∙ q))
 
 pub start-on-spec : {M : Type 1} → statement M
 start-on-spec =
@@ -88,19 +76,15 @@ start-on-spec =
     (tie.spec
     sides-of-requires
     returns
-    lent-in-requires
+    shortest-requires
     both-requires
-    same-length
-    same-length-2
-    same-length-3
-    same-length-4
     returns-2
     slice-write-places
     slice-write-sets
     slice-write-parents
     slice-write-letters
-    same-length-5
-    same-length-6
-    same-length-7
-    same-length-8
+    same-length
+    same-length-2
+    same-length-3
+    same-length-4
     returns-3)

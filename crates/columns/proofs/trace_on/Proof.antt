@@ -33,7 +33,7 @@ passed : (q : tie.After-room-of) → before-room q .sides-of .result .why .refus
 passed q = q .before .before .before .before .if1 .left
 
 room-is : (q : tie.After-room-of) → let s = before-room q in q .room-of .result ≡ roomOf (lentIn (s .before .before .before .before .before .before .before .before .args .lent) (columns-at s))
-room-is q = q .room-of .ensures ∙ ap roomOf (q .before .lent-in .ensures)
+room-is q = q .room-of .ensures ∙ ap roomOf (q .before .shortest .ensures)
 
 -- 16 as it was asked is 16 of what was given and lent
 asked : (i : tie.After-is-impossible) → let s = before-asked i in let r = s .before .before .before .before .before .before .before .before .args .run in
@@ -71,8 +71,8 @@ returns c =
     let a = s .before .before .before .before .before .before .before .before .args in
     trace-refused (given-at s) (s .sides-of .result) (s .sides-of .ensures) (a .lent) (columns-at s) (a .run) (a .out .now) (c .if1 .taken)
 
-lent-in-requires : tie.Need-lent-in-requires
-lent-in-requires c κs = search needs
+shortest-requires : tie.Need-shortest-requires
+shortest-requires c κs = search needs
 
 room-of-requires : tie.Need-room-of-requires
 room-of-requires c κs = search needs
@@ -158,7 +158,7 @@ trace-on-spec =
     (tie.spec
     sides-of-requires
     returns
-    lent-in-requires
+    shortest-requires
     room-of-requires
     is-impossible-requires
     both-requires

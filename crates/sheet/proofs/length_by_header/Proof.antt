@@ -1,6 +1,5 @@
 -- `sheet::length_by_header`: N is the field after s, and it has 8 bits.
-use Prim.Native.Nat.{_<_, _^_}
-use mathlib.Core.Path.{_≡_, ap, _∙_}
+use mathlib.Core.Path.{ap, _∙_}
 use native.Mathlib.Omega.{arith}
 use borrow.Author.Needs.{needs}
 use Rattle.sheet.specs.Sheet.{sheetLength, countIn}

@@ -1,5 +1,4 @@
 -- `sheet::refusal_of`: each case of a reading has the definition's number.
-use Prim.Native.Nat.{ℕ}
 use mathlib.Core.Path.{_≡_, sym, ap}
 use borrow.Author.Needs.{needs}
 use Rattle.sheet.specs.declared.Reading.{Reading}

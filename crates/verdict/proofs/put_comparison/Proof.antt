@@ -1,7 +1,7 @@
 -- `verdict::put_comparison`: what `decide` answers, as lines.
 use mathlib.Core.Path.{refl}
 use lib.ListN.{replicate}
-use Rattle.goals.specs.Refusals.{Given, given, againstOf}
+use Rattle.goals.specs.Refusals.{Given, given}
 use Rattle.columns.specs.Calls.{columns}
 use Rattle.verdict.specs.Core.{Ended}
 use Rattle.verdict.proofs.Laws.{puts-as}

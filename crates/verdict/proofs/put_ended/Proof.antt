@@ -1,9 +1,5 @@
 -- `verdict::put_ended`: two lines, and a third where the run is refuted.
-use Prim.Native.Nat.{_≤_}
-use mathlib.Core.Bool.{true, false}
 use native.Mathlib.Omega.{arith}
-use lib.ListN.{length}
-use Rattle.verdict.specs.Lines.{outcomeLine, countsLine}
 use Rattle.verdict.proofs.Laws.{length-outcome, length-counts}
 use Rattle.verdict.proofs.Printing.{counts-small, lines-two, lines-three}
 use borrow.Author.Needs.{needs}

@@ -1,11 +1,11 @@
 -- `verdict::put_letter`: a space and two digits, one behind the other.
-use Prim.Native.Nat.{ℕ, _+_, _/_, _%_, _≤_}
-use mathlib.Core.Path.{_≡_, refl, sym, ap, subst, _∙_}
+use Prim.Native.Nat.{ℕ, _+_, _≤_}
+use mathlib.Core.Path.{_≡_, subst}
 use mathlib.Core.List.{List, [], _∷_}
 use native.Mathlib.Omega.{arith}
 use lib.ListN.{length, set, length-set}
 use borrow.Author.Needs.{needs}
-use Rattle.verdict.specs.Lines.{ascii, digit, letter}
+use Rattle.verdict.specs.Lines.{ascii, letter}
 use Rattle.verdict.specs.Core.{Puts}
 use Rattle.verdict.proofs.Laws.{puts-both, puts-byte, puts-as}
 use Rattle.verdict.proofs.put_letter.Statement.{statement}

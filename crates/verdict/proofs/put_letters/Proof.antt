@@ -4,8 +4,8 @@ use mathlib.Core.Path.{_≡_, refl, sym, ap, _∙_}
 use mathlib.Core.List.{List, [], _∷_, _++_, append-assoc, append-nil}
 use native.Mathlib.Omega.{arith}
 use native.Mathlib.Numerals.{add-one}
-use lib.ListN.{length, getD, take, length-append}
-use lib.Seq.{take-suc, take-all, length-take-le}
+use lib.ListN.{length, getD, take}
+use lib.Seq.{take-suc, take-all}
 use borrow.Author.Needs.{needs}
 use Rattle.verdict.specs.Lines.{ascii, letter, letters}
 use Rattle.verdict.specs.Core.{Puts}

@@ -5,7 +5,6 @@ use mathlib.Core.List.{List}
 use native.Mathlib.Omega.{arith}
 use lib.ListN.{length, replicate}
 use borrow.Author.Needs.{needs}
-use Rattle.verdict.specs.declared.Lines.{Lines}
 use Rattle.verdict.specs.Program.{linesOf, Prints}
 use Rattle.verdict.specs.Core.{Puts}
 use Rattle.verdict.proofs.verdict.Statement.{statement}
