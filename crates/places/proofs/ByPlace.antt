@@ -20,7 +20,7 @@ use Rattle.effect.specs.Refusals.{oneIfInstant, instants}
 use Rattle.effect.proofs.Matching.{matches-iff, both-masks}
 use Rattle.places.specs.declared.Side.{Side}
 use Rattle.places.specs.Places.{place, numbered, after}
-use Rattle.places.specs.Side.{listOf, presentIn, absentIn, masksTo, byPlace, sideOf}
+use Rattle.places.specs.Side.{listOf, maskIn, presentIn, absentIn, masksTo, byPlace, sideOf}
 use Rattle.places.specs.Readings.{matchingTo, matching, followers}
 use Rattle.places.proofs.Rows.{place-is, place-lt, within-table}
 use Rattle.places.proofs.Sets.{same, cond-mem, union-mem}
@@ -40,23 +40,14 @@ listOf-at (suc n) f j h = ⊎-elim
     (eq-or-lt-of-le (le-of-suc-le-suc h))
 
 -- ---- the masks
-pub present-one : (n : Node) → length (presentIn n) ≡ oneIfInstant n
-unfolding presentIn oneIfInstant
-present-one Nil = refl
-present-one Empty = refl
-present-one (Instant p n) = refl
-present-one (Seq a b) = refl
-present-one (Choice a b) = refl
-present-one (Repeat a) = refl
-
-pub absent-one : (n : Node) → length (absentIn n) ≡ oneIfInstant n
-unfolding absentIn oneIfInstant
-absent-one Nil = refl
-absent-one Empty = refl
-absent-one (Instant p n) = refl
-absent-one (Seq a b) = refl
-absent-one (Choice a b) = refl
-absent-one (Repeat a) = refl
+pub mask-one : (which : ℕ → ℕ → ℕ) (n : Node) → length (maskIn which n) ≡ oneIfInstant n
+unfolding maskIn oneIfInstant
+mask-one which Nil = refl
+mask-one which Empty = refl
+mask-one which (Instant p n) = refl
+mask-one which (Seq a b) = refl
+mask-one which (Choice a b) = refl
+mask-one which (Repeat a) = refl
 
 -- of masks that an instant has one of, and no other node any
 module _ (mask : Node → List ℕ) (one : (n : Node) → length (mask n) ≡ oneIfInstant n) (t : List Node) where
@@ -127,12 +118,12 @@ module _ (s : ℕ) (t : List Node) where
 
   -- a place matches what its instant does
   pub matching-place : (i p n x : ℕ) → at t i ≡ Instant p n → Matches s p n x ↔ Mem (matching (sideOf s t) x) (place t i)
-  unfolding sideOf presentIn absentIn oneIfInstant
+  unfolding sideOf maskIn oneIfInstant
   matching-place i p n x e =
       let l = instant-within i p n e in
       let here = place-is t i l (rw e refl) in
-      let a = mask-at presentIn present-one t i p (rw e refl) l in
-      let b = mask-at absentIn absent-one t i n (rw e refl) l in
+      let a = mask-at presentIn (mask-one (λ p n. p)) t i p (rw e refl) l in
+      let b = mask-at absentIn (mask-one (λ p n. n)) t i n (rw e refl) l in
       let m = matching-mem (sideOf s t) x (place t i) in
       let f = matches-iff s p n x in (
         (λ h. m .1 (here .0, here .1, rw (a, b) (f .1 h))),

@@ -21,7 +21,7 @@ use Rattle.effect.specs.WellFormed.{Named}
 use Rattle.effect.proofs.Matching.{matches-iff}
 use Rattle.places.specs.declared.Side.{Side}
 use Rattle.places.specs.declared.Naming.{Naming}
-use Rattle.places.specs.Side.{presentIn, absentIn, masksTo, byPlace, sideOf}
+use Rattle.places.specs.Side.{maskIn, presentIn, absentIn, masksTo, byPlace, sideOf}
 use Rattle.places.specs.Readings.{matching}
 use Rattle.places.specs.Matching.{namingTo, namingOf, placesTo, leftTo, matchingBy, Matched}
 use Rattle.places.proofs.ByPlace.{listOf-at, places-mem, matching-mem}
@@ -52,23 +52,20 @@ module _ (s : ℕ) where
   small-zeros (suc n) zero = pow-pos s
   small-zeros (suc n) (suc j) = small-zeros n j
 
+  small-mask : (which : ℕ → ℕ → ℕ) → ((p q : ℕ) → Named s (Instant p q) → which p q < 2 ^ s) → (n : Node) → Named s n → Small (maskIn which n)
+  unfolding maskIn
+  small-mask which l Nil h = small-nil
+  small-mask which l Empty h = small-nil
+  small-mask which l (Instant p q) h = small-one (which p q) (l p q h)
+  small-mask which l (Seq a b) h = small-nil
+  small-mask which l (Choice a b) h = small-nil
+  small-mask which l (Repeat a) h = small-nil
+
   small-present : (n : Node) → Named s n → Small (presentIn n)
-  unfolding presentIn
-  small-present Nil h = small-nil
-  small-present Empty h = small-nil
-  small-present (Instant p q) h = small-one p (lt-mem s p (λ j m. h j (inl m)))
-  small-present (Seq a b) h = small-nil
-  small-present (Choice a b) h = small-nil
-  small-present (Repeat a) h = small-nil
+  small-present = small-mask (λ p q. p) (λ p q h. lt-mem s p (λ j m. h j (inl m)))
 
   small-absent : (n : Node) → Named s n → Small (absentIn n)
-  unfolding absentIn
-  small-absent Nil h = small-nil
-  small-absent Empty h = small-nil
-  small-absent (Instant p q) h = small-one q (lt-mem s q (λ j m. h j (inr m)))
-  small-absent (Seq a b) h = small-nil
-  small-absent (Choice a b) h = small-nil
-  small-absent (Repeat a) h = small-nil
+  small-absent = small-mask (λ p q. q) (λ p q h. lt-mem s q (λ j m. h j (inr m)))
 
   small-masks : (mask : Node → List ℕ) → ((n : Node) → Named s n → Small (mask n)) → (t : List Node) → ((i : ℕ) → Named s (at t i)) → (i : ℕ) → Small (byPlace (masksTo mask t i))
   unfolding masksTo

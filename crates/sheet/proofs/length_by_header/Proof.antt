@@ -1,9 +1,9 @@
--- `sheet::length_by_header`: N is the field after s, and it has 8 bits.
+-- `sheet::length_by_header`: N is the field after s; the bound of `length_of` is that of any number of 8 bits.
 use mathlib.Core.Path.{ap, _∙_}
 use native.Mathlib.Omega.{arith}
 use borrow.Author.Needs.{needs}
 use Rattle.sheet.specs.Sheet.{sheetLength, countIn}
-use Rattle.sheet.proofs.Header.{count-lt}
+use Rattle.sheet.proofs.Header.{read-lt}
 use Rattle.sheet.proofs.length_by_header.Statement.{statement}
 use Rattle.sheet.proofs.length_by_header.Tie as tie
 
@@ -14,8 +14,7 @@ cast-length-of : tie.Need-cast-length-of
 cast-length-of c = search needs
 
 length-of-requires : tie.Need-length-of-requires
-unfolding countIn
-length-of-requires c κs = omega (arith, count-lt (c .before .before .args .sheet .now), c .field-at .ensures)
+length-of-requires c κs = omega (arith, read-lt (c .before .before .args .sheet .now) _ _ _ (c .field-at .ensures))
 
 returns : tie.Need-returns
 unfolding countIn
