@@ -2,6 +2,9 @@ pub mod Laws
 pub mod Elem
 pub mod Facts
 pub mod Lent
+pub mod Frames
+pub mod Counting
+pub mod Copying
 pub mod Calling
 pub mod Callees
 pub mod Loading

@@ -67,6 +67,7 @@ use Rattle.compare.proofs.Answered.Laws as Z′
 use Rattle.compare.proofs.Told as O′
 use Rattle.compare.proofs.Told.Laws as O″
 use Rattle.compare.proofs.Lent.{big-lit, boxes, unboxes, row-array, lend-row, row-back, share-row, unshare-row}
+use Rattle.compare.proofs.Frames.{has-each, room-each, dies-each}
 use Rattle.compare.proofs.Callees.{R, S, B, typed-run, typed-answer, One, Store, to-store, goes-store}
 use Rattle.compare.proofs.Loading.{Six, Load, to-load, goes-load}
 use Rattle.compare.proofs.Tabling.{cuts, glues, lend-local, local-back, blank-value, blank-value-is, blanks, blanks-are, blanks-long, room-table, typed-row, typed-table, tabled, rest, table-fits, room-lent, table-long, table-taken, Least, to-least, goes-least, least-of}
@@ -150,6 +151,13 @@ module _ {M : Type 1} (𝓤 : URA M) (H : Heap 𝓤) (A : Atoms 𝓤) (W : Given
 
   abbrev κs : Lfts 6
   κs = (κ₀, (κ₁, (κ₂, (κ₃, (κ₄, (κ₅, tt))))))
+
+  -- what is passed, but whether the run begins
+  abbrev passed : List Val
+  passed =
+      vint w8 ls ∷ sliceVal (x₃ .ptr) (length (x₃ .now)) ∷ vint w8 rs ∷ sliceVal (x₅ .ptr) (length (x₅ .now)) ∷ vint w64 m ∷
+      sliceVal (x₇ .ptr) (length (x₇ .now)) ∷ sliceVal (x₈ .ptr) (length (x₈ .now)) ∷ sliceVal (x₉ .ptr) (length (x₉ .now)) ∷
+      sliceVal (x₁₀ .ptr) (length (x₁₀ .now)) ∷ U′.lowered h ∷ vint w64 budget ∷ []
 
   abbrev at : Vals table.signature κs
   at = (vbool begins ∷ [], (vint w8 ls ∷ [], (slice-vals x₃, (vint w8 rs ∷ [], (slice-vals x₅, (vint w64 m ∷ [], (slice-vals x₇, (slice-vals x₈, (slice-vals x₉, (slice-vals x₁₀, (U′.lowered h ∷ [], (vint w64 budget ∷ [], tt))))))))))))
@@ -244,67 +252,61 @@ module _ {M : Type 1} (𝓤 : URA M) (H : Heap 𝓤) (A : Atoms 𝓤) (W : Given
     abbrev p : ℕ → Width → Ty
     p k w = sliceTy (tyRef (named k) mut (tyInt w))
 
+    -- the locals: the result and whether the run begins; the other parameters (`Args`); what the body names (`Inner`); the temporaries (`Temps`)
+    abbrev Temps : Env 𝓤 H
+    Temps =
+        (spell Mir.table (pointee (R .written)), l₁₇) ∷ (spell Mir.table (tyInt w64), l₁₈) ∷ (spell Mir.table (tyInt w64), l₁₉) ∷
+        (spell Mir.table (tyInt w64), l₂₀) ∷ (spell Mir.table (tyInt w64), l₂₁) ∷ (spell Mir.table tyUnit, l₂₂) ∷
+        (spell Mir.table (tyRef erased mut (tyArray (pointee (R .written)) N)), l₂₃) ∷
+        (spell Mir.table (sliceTy (tyRef erased mut (pointee (R .written)))), l₂₄) ∷ (spell Mir.table (tyRef erased imm (tyInt w8)), l₂₅) ∷
+        (spell Mir.table (sliceTy (tyRef erased imm (tyInt w8))), l₂₆) ∷ (spell Mir.table (tyRef erased imm (tyInt w64)), l₂₇) ∷
+        (spell Mir.table (sliceTy (tyRef erased imm (tyInt w64))), l₂₈) ∷ (spell Mir.table (tyRef erased imm (tyInt w16)), l₂₉) ∷
+        (spell Mir.table (sliceTy (tyRef erased imm (tyInt w16))), l₃₀) ∷ (spell Mir.table (tyRef erased imm (tyInt w16)), l₃₁) ∷
+        (spell Mir.table (sliceTy (tyRef erased imm (tyInt w16))), l₃₂) ∷
+        (spell Mir.table (tyRef erased mut (tyArray (pointee (R .written)) N)), l₃₃) ∷
+        (spell Mir.table (sliceTy (tyRef erased mut (pointee (R .written)))), l₃₄) ∷
+        (spell Mir.table (tyRef erased mut (pointee (S .written))), l₃₅) ∷
+        (spell Mir.table (tyRef erased imm (tyArray (pointee (R .written)) N)), l₃₆) ∷
+        (spell Mir.table (sliceTy (tyRef erased imm (pointee (R .written)))), l₃₇) ∷ (spell Mir.table (tyRef erased mut (tyInt w8)), l₃₈) ∷
+        (spell Mir.table (sliceTy (tyRef erased mut (tyInt w8))), l₃₉) ∷ (spell Mir.table (tyRef erased mut (tyInt w64)), l₄₀) ∷
+        (spell Mir.table (sliceTy (tyRef erased mut (tyInt w64))), l₄₁) ∷ (spell Mir.table (tyRef erased mut (tyInt w16)), l₄₂) ∷
+        (spell Mir.table (sliceTy (tyRef erased mut (tyInt w16))), l₄₃) ∷ (spell Mir.table (tyRef erased mut (tyInt w16)), l₄₄) ∷
+        (spell Mir.table (sliceTy (tyRef erased mut (tyInt w16))), l₄₅) ∷ (spell Mir.table (pointee (S .written)), l₄₆) ∷ []
+
+    abbrev Inner : Env 𝓤 H
+    Inner =
+        (spell Mir.table (tyArray (pointee (R .written)) N), l₁₃) ∷ (spell Mir.table (tyInt w64), l₁₄) ∷
+        (spell Mir.table (pointee (S .written)), l₁₅) ∷ (spell Mir.table (pointee (B .written)), l₁₆) ∷ Temps
+
+    abbrev Args : Env 𝓤 H → Env 𝓤 H
+    Args e =
+        (spell Mir.table (tyInt w8), l₂) ∷ (spell Mir.table pₗ, l₃) ∷ (spell Mir.table (tyInt w8), l₄) ∷ (spell Mir.table pᵣ, l₅) ∷
+        (spell Mir.table (tyInt w64), l₆) ∷ (spell Mir.table (p 2 w8), l₇) ∷ (spell Mir.table (p 3 w64), l₈) ∷ (spell Mir.table (p 4 w16), l₉) ∷
+        (spell Mir.table (p 5 w16), l₁₀) ∷ (spell Mir.table (pointee (S .written)), l₁₁) ∷ (spell Mir.table (tyInt w64), l₁₂) ∷ e
+
     abbrev En : Env 𝓤 H
-    En = (spell Mir.table (pointee (O .written)), l₀) ∷ (spell Mir.table tyBool, l₁) ∷ (spell Mir.table (tyInt w8), l₂) ∷ (spell Mir.table pₗ, l₃) ∷ (spell Mir.table (tyInt w8), l₄) ∷ (spell Mir.table pᵣ, l₅) ∷ (spell Mir.table (tyInt w64), l₆)
-        ∷ (spell Mir.table (p 2 w8), l₇) ∷ (spell Mir.table (p 3 w64), l₈) ∷ (spell Mir.table (p 4 w16), l₉) ∷ (spell Mir.table (p 5 w16), l₁₀) ∷ (spell Mir.table (pointee (S .written)), l₁₁)
-        ∷ (spell Mir.table (tyInt w64), l₁₂) ∷ (spell Mir.table (tyArray (pointee (R .written)) N), l₁₃) ∷ (spell Mir.table (tyInt w64), l₁₄) ∷ (spell Mir.table (pointee (S .written)), l₁₅)
-        ∷ (spell Mir.table (pointee (B .written)), l₁₆) ∷ (spell Mir.table (pointee (R .written)), l₁₇) ∷ (spell Mir.table (tyInt w64), l₁₈) ∷ (spell Mir.table (tyInt w64), l₁₉) ∷ (spell Mir.table (tyInt w64), l₂₀)
-        ∷ (spell Mir.table (tyInt w64), l₂₁) ∷ (spell Mir.table tyUnit, l₂₂) ∷ (spell Mir.table (tyRef erased mut (tyArray (pointee (R .written)) N)), l₂₃)
-        ∷ (spell Mir.table (sliceTy (tyRef erased mut (pointee (R .written)))), l₂₄) ∷ (spell Mir.table (tyRef erased imm (tyInt w8)), l₂₅) ∷ (spell Mir.table (sliceTy (tyRef erased imm (tyInt w8))), l₂₆)
-        ∷ (spell Mir.table (tyRef erased imm (tyInt w64)), l₂₇) ∷ (spell Mir.table (sliceTy (tyRef erased imm (tyInt w64))), l₂₈) ∷ (spell Mir.table (tyRef erased imm (tyInt w16)), l₂₉)
-        ∷ (spell Mir.table (sliceTy (tyRef erased imm (tyInt w16))), l₃₀) ∷ (spell Mir.table (tyRef erased imm (tyInt w16)), l₃₁) ∷ (spell Mir.table (sliceTy (tyRef erased imm (tyInt w16))), l₃₂)
-        ∷ (spell Mir.table (tyRef erased mut (tyArray (pointee (R .written)) N)), l₃₃) ∷ (spell Mir.table (sliceTy (tyRef erased mut (pointee (R .written)))), l₃₄)
-        ∷ (spell Mir.table (tyRef erased mut (pointee (S .written))), l₃₅) ∷ (spell Mir.table (tyRef erased imm (tyArray (pointee (R .written)) N)), l₃₆)
-        ∷ (spell Mir.table (sliceTy (tyRef erased imm (pointee (R .written)))), l₃₇) ∷ (spell Mir.table (tyRef erased mut (tyInt w8)), l₃₈) ∷ (spell Mir.table (sliceTy (tyRef erased mut (tyInt w8))), l₃₉)
-        ∷ (spell Mir.table (tyRef erased mut (tyInt w64)), l₄₀) ∷ (spell Mir.table (sliceTy (tyRef erased mut (tyInt w64))), l₄₁) ∷ (spell Mir.table (tyRef erased mut (tyInt w16)), l₄₂)
-        ∷ (spell Mir.table (sliceTy (tyRef erased mut (tyInt w16))), l₄₃) ∷ (spell Mir.table (tyRef erased mut (tyInt w16)), l₄₄) ∷ (spell Mir.table (sliceTy (tyRef erased mut (tyInt w16))), l₄₅)
-        ∷ (spell Mir.table (pointee (S .written)), l₄₆) ∷ []
+    En = (spell Mir.table (pointee (O .written)), l₀) ∷ (spell Mir.table tyBool, l₁) ∷ Args Inner
+
+    -- the other parameters' locals, with what was passed
+    abbrev Params : List (Item 𝓤) → List (Item 𝓤)
+    Params Γ = has-each (Args []) passed Γ
 
     -- between two stages: the table; the columns; the parameters' locals; the number of rows; the record and the answer, or room for them; room for the other locals; the open borrows; the tokens of what is only read; that each local dies; and, last, the local of `begins`
     abbrev At : ℕ → List Row → List ℕ → List ℕ → List ℕ → List ℕ → Item 𝓤 → Item 𝓤 → List (Item 𝓤)
-    At n rs′ z₁ z₂ z₃ z₄ rec ans = ‵ (row R fullShare rs′ l₁₃ 0) ∷ ‵ (row u8 fullShare z₁ (x₇ .ptr .0) (x₇ .ptr .1)) ∷ ‵ (row u64 fullShare z₂ (x₈ .ptr .0) (x₈ .ptr .1)) ∷ ‵ (row u16 fullShare z₃ (x₉ .ptr .0) (x₉ .ptr .1))
-        ∷ ‵ (row u16 fullShare z₄ (x₁₀ .ptr .0) (x₁₀ .ptr .1)) ∷ ‵ (fat fullShare (spell Mir.table (tyInt w8)) l₂ 0 (vint w8 ls)) ∷ ‵ (fat fullShare (spell Mir.table pₗ) l₃ 0 (sliceVal (x₃ .ptr) (length (x₃ .now))))
-        ∷ ‵ (fat fullShare (spell Mir.table (tyInt w8)) l₄ 0 (vint w8 rs)) ∷ ‵ (fat fullShare (spell Mir.table pᵣ) l₅ 0 (sliceVal (x₅ .ptr) (length (x₅ .now))))
-        ∷ ‵ (fat fullShare (spell Mir.table (tyInt w64)) l₆ 0 (vint w64 m)) ∷ ‵ (fat fullShare (spell Mir.table (p 2 w8)) l₇ 0 (sliceVal (x₇ .ptr) (length (x₇ .now))))
-        ∷ ‵ (fat fullShare (spell Mir.table (p 3 w64)) l₈ 0 (sliceVal (x₈ .ptr) (length (x₈ .now)))) ∷ ‵ (fat fullShare (spell Mir.table (p 4 w16)) l₉ 0 (sliceVal (x₉ .ptr) (length (x₉ .now))))
-        ∷ ‵ (fat fullShare (spell Mir.table (p 5 w16)) l₁₀ 0 (sliceVal (x₁₀ .ptr) (length (x₁₀ .now)))) ∷ ‵ (fat fullShare (spell Mir.table (pointee (S .written))) l₁₁ 0 (U′.lowered h))
-        ∷ ‵ (fat fullShare (spell Mir.table (tyInt w64)) l₁₂ 0 (vint w64 budget)) ∷ ‵ (fat fullShare (spell Mir.table (tyInt w64)) l₁₄ 0 (vint w64 n)) ∷ rec ∷ ans ∷ ‵ (froom (spell Mir.table (pointee (O .written))) l₀ 0)
-        ∷ ‵ (froom (spell Mir.table (pointee (R .written))) l₁₇ 0) ∷ ‵ (froom (spell Mir.table (tyInt w64)) l₁₈ 0) ∷ ‵ (froom (spell Mir.table (tyInt w64)) l₁₉ 0) ∷ ‵ (froom (spell Mir.table (tyInt w64)) l₂₀ 0)
-        ∷ ‵ (froom (spell Mir.table (tyInt w64)) l₂₁ 0) ∷ ‵ (froom (spell Mir.table tyUnit) l₂₂ 0) ∷ ‵ (froom (spell Mir.table (tyRef erased mut (tyArray (pointee (R .written)) N))) l₂₃ 0)
-        ∷ ‵ (froom (spell Mir.table (sliceTy (tyRef erased mut (pointee (R .written))))) l₂₄ 0) ∷ ‵ (froom (spell Mir.table (tyRef erased imm (tyInt w8))) l₂₅ 0)
-        ∷ ‵ (froom (spell Mir.table (sliceTy (tyRef erased imm (tyInt w8)))) l₂₆ 0) ∷ ‵ (froom (spell Mir.table (tyRef erased imm (tyInt w64))) l₂₇ 0)
-        ∷ ‵ (froom (spell Mir.table (sliceTy (tyRef erased imm (tyInt w64)))) l₂₈ 0) ∷ ‵ (froom (spell Mir.table (tyRef erased imm (tyInt w16))) l₂₉ 0)
-        ∷ ‵ (froom (spell Mir.table (sliceTy (tyRef erased imm (tyInt w16)))) l₃₀ 0) ∷ ‵ (froom (spell Mir.table (tyRef erased imm (tyInt w16))) l₃₁ 0)
-        ∷ ‵ (froom (spell Mir.table (sliceTy (tyRef erased imm (tyInt w16)))) l₃₂ 0) ∷ ‵ (froom (spell Mir.table (tyRef erased mut (tyArray (pointee (R .written)) N))) l₃₃ 0)
-        ∷ ‵ (froom (spell Mir.table (sliceTy (tyRef erased mut (pointee (R .written))))) l₃₄ 0) ∷ ‵ (froom (spell Mir.table (tyRef erased mut (pointee (S .written)))) l₃₅ 0)
-        ∷ ‵ (froom (spell Mir.table (tyRef erased imm (tyArray (pointee (R .written)) N))) l₃₆ 0) ∷ ‵ (froom (spell Mir.table (sliceTy (tyRef erased imm (pointee (R .written))))) l₃₇ 0)
-        ∷ ‵ (froom (spell Mir.table (tyRef erased mut (tyInt w8))) l₃₈ 0) ∷ ‵ (froom (spell Mir.table (sliceTy (tyRef erased mut (tyInt w8)))) l₃₉ 0) ∷ ‵ (froom (spell Mir.table (tyRef erased mut (tyInt w64))) l₄₀ 0)
-        ∷ ‵ (froom (spell Mir.table (sliceTy (tyRef erased mut (tyInt w64)))) l₄₁ 0) ∷ ‵ (froom (spell Mir.table (tyRef erased mut (tyInt w16))) l₄₂ 0)
-        ∷ ‵ (froom (spell Mir.table (sliceTy (tyRef erased mut (tyInt w16)))) l₄₃ 0) ∷ ‵ (froom (spell Mir.table (tyRef erased mut (tyInt w16))) l₄₄ 0)
-        ∷ ‵ (froom (spell Mir.table (sliceTy (tyRef erased mut (tyInt w16)))) l₄₅ 0) ∷ ‵ (froom (spell Mir.table (pointee (S .written))) l₄₆ 0)
-        ∷ ‵ (fobor κ₂ q₂ (Held u8 (length (x₇ .now)) (x₇ .ptr .0) (x₇ .ptr .1) (x₇ .name))) ∷ ‵ (fobs (x₇ .name) (codedHoleys u8 .code (heres u8 (x₇ .now))))
-        ∷ ‵ (fauth (x₇ .name) (codedHoleys u8 .code (heres u8 (x₇ .now)))) ∷ ‵ (fobor κ₃ q₃ (Held u64 (length (x₈ .now)) (x₈ .ptr .0) (x₈ .ptr .1) (x₈ .name)))
-        ∷ ‵ (fobs (x₈ .name) (codedHoleys u64 .code (heres u64 (x₈ .now)))) ∷ ‵ (fauth (x₈ .name) (codedHoleys u64 .code (heres u64 (x₈ .now))))
-        ∷ ‵ (fobor κ₄ q₄ (Held u16 (length (x₉ .now)) (x₉ .ptr .0) (x₉ .ptr .1) (x₉ .name))) ∷ ‵ (fobs (x₉ .name) (codedHoleys u16 .code (heres u16 (x₉ .now))))
-        ∷ ‵ (fauth (x₉ .name) (codedHoleys u16 .code (heres u16 (x₉ .now)))) ∷ ‵ (fobor κ₅ q₅ (Held u16 (length (x₁₀ .now)) (x₁₀ .ptr .0) (x₁₀ .ptr .1) (x₁₀ .name)))
-        ∷ ‵ (fobs (x₁₀ .name) (codedHoleys u16 .code (heres u16 (x₁₀ .now)))) ∷ ‵ (fauth (x₁₀ .name) (codedHoleys u16 .code (heres u16 (x₁₀ .now)))) ∷ ‵ (flft κ₀ q₀) ∷ ‵ (flft κ₁ q₁)
-        ∷ ‵ (fdies (spell Mir.table (pointee (O .written))) l₀) ∷ ‵ (fdies (spell Mir.table (tyInt w8)) l₂) ∷ ‵ (fdies (spell Mir.table pₗ) l₃) ∷ ‵ (fdies (spell Mir.table (tyInt w8)) l₄)
-        ∷ ‵ (fdies (spell Mir.table pᵣ) l₅) ∷ ‵ (fdies (spell Mir.table (tyInt w64)) l₆) ∷ ‵ (fdies (spell Mir.table (p 2 w8)) l₇) ∷ ‵ (fdies (spell Mir.table (p 3 w64)) l₈) ∷ ‵ (fdies (spell Mir.table (p 4 w16)) l₉)
-        ∷ ‵ (fdies (spell Mir.table (p 5 w16)) l₁₀) ∷ ‵ (fdies (spell Mir.table (pointee (S .written))) l₁₁) ∷ ‵ (fdies (spell Mir.table (tyInt w64)) l₁₂)
-        ∷ ‵ (fdies (spell Mir.table (tyArray (pointee (R .written)) N)) l₁₃) ∷ ‵ (fdies (spell Mir.table (tyInt w64)) l₁₄) ∷ ‵ (fdies (spell Mir.table (pointee (S .written))) l₁₅)
-        ∷ ‵ (fdies (spell Mir.table (pointee (B .written))) l₁₆) ∷ ‵ (fdies (spell Mir.table (pointee (R .written))) l₁₇) ∷ ‵ (fdies (spell Mir.table (tyInt w64)) l₁₈) ∷ ‵ (fdies (spell Mir.table (tyInt w64)) l₁₉)
-        ∷ ‵ (fdies (spell Mir.table (tyInt w64)) l₂₀) ∷ ‵ (fdies (spell Mir.table (tyInt w64)) l₂₁) ∷ ‵ (fdies (spell Mir.table tyUnit) l₂₂)
-        ∷ ‵ (fdies (spell Mir.table (tyRef erased mut (tyArray (pointee (R .written)) N))) l₂₃) ∷ ‵ (fdies (spell Mir.table (sliceTy (tyRef erased mut (pointee (R .written))))) l₂₄)
-        ∷ ‵ (fdies (spell Mir.table (tyRef erased imm (tyInt w8))) l₂₅) ∷ ‵ (fdies (spell Mir.table (sliceTy (tyRef erased imm (tyInt w8)))) l₂₆) ∷ ‵ (fdies (spell Mir.table (tyRef erased imm (tyInt w64))) l₂₇)
-        ∷ ‵ (fdies (spell Mir.table (sliceTy (tyRef erased imm (tyInt w64)))) l₂₈) ∷ ‵ (fdies (spell Mir.table (tyRef erased imm (tyInt w16))) l₂₉)
-        ∷ ‵ (fdies (spell Mir.table (sliceTy (tyRef erased imm (tyInt w16)))) l₃₀) ∷ ‵ (fdies (spell Mir.table (tyRef erased imm (tyInt w16))) l₃₁)
-        ∷ ‵ (fdies (spell Mir.table (sliceTy (tyRef erased imm (tyInt w16)))) l₃₂) ∷ ‵ (fdies (spell Mir.table (tyRef erased mut (tyArray (pointee (R .written)) N))) l₃₃)
-        ∷ ‵ (fdies (spell Mir.table (sliceTy (tyRef erased mut (pointee (R .written))))) l₃₄) ∷ ‵ (fdies (spell Mir.table (tyRef erased mut (pointee (S .written)))) l₃₅)
-        ∷ ‵ (fdies (spell Mir.table (tyRef erased imm (tyArray (pointee (R .written)) N))) l₃₆) ∷ ‵ (fdies (spell Mir.table (sliceTy (tyRef erased imm (pointee (R .written))))) l₃₇)
-        ∷ ‵ (fdies (spell Mir.table (tyRef erased mut (tyInt w8))) l₃₈) ∷ ‵ (fdies (spell Mir.table (sliceTy (tyRef erased mut (tyInt w8)))) l₃₉) ∷ ‵ (fdies (spell Mir.table (tyRef erased mut (tyInt w64))) l₄₀)
-        ∷ ‵ (fdies (spell Mir.table (sliceTy (tyRef erased mut (tyInt w64)))) l₄₁) ∷ ‵ (fdies (spell Mir.table (tyRef erased mut (tyInt w16))) l₄₂)
-        ∷ ‵ (fdies (spell Mir.table (sliceTy (tyRef erased mut (tyInt w16)))) l₄₃) ∷ ‵ (fdies (spell Mir.table (tyRef erased mut (tyInt w16))) l₄₄)
-        ∷ ‵ (fdies (spell Mir.table (sliceTy (tyRef erased mut (tyInt w16)))) l₄₅) ∷ ‵ (fdies (spell Mir.table (pointee (S .written))) l₄₆) ∷ ‵ (fat fullShare (spell Mir.table tyBool) l₁ 0 (vbool begins)) ∷ ‵ (fdies (spell Mir.table tyBool) l₁) ∷ []
+    At n rs′ z₁ z₂ z₃ z₄ rec ans =
+        ‵ (row R fullShare rs′ l₁₃ 0) ∷ ‵ (row u8 fullShare z₁ (x₇ .ptr .0) (x₇ .ptr .1)) ∷ ‵ (row u64 fullShare z₂ (x₈ .ptr .0) (x₈ .ptr .1)) ∷
+        ‵ (row u16 fullShare z₃ (x₉ .ptr .0) (x₉ .ptr .1)) ∷ ‵ (row u16 fullShare z₄ (x₁₀ .ptr .0) (x₁₀ .ptr .1)) ∷ Params (
+        ‵ (fat fullShare (spell Mir.table (tyInt w64)) l₁₄ 0 (vint w64 n)) ∷ rec ∷ ans ∷ ‵ (froom (spell Mir.table (pointee (O .written))) l₀ 0) ∷
+        room-each Temps (‵ (fobor κ₂ q₂ (Held u8 (length (x₇ .now)) (x₇ .ptr .0) (x₇ .ptr .1) (x₇ .name))) ∷
+        ‵ (fobs (x₇ .name) (codedHoleys u8 .code (heres u8 (x₇ .now)))) ∷ ‵ (fauth (x₇ .name) (codedHoleys u8 .code (heres u8 (x₇ .now)))) ∷
+        ‵ (fobor κ₃ q₃ (Held u64 (length (x₈ .now)) (x₈ .ptr .0) (x₈ .ptr .1) (x₈ .name))) ∷
+        ‵ (fobs (x₈ .name) (codedHoleys u64 .code (heres u64 (x₈ .now)))) ∷ ‵ (fauth (x₈ .name) (codedHoleys u64 .code (heres u64 (x₈ .now)))) ∷
+        ‵ (fobor κ₄ q₄ (Held u16 (length (x₉ .now)) (x₉ .ptr .0) (x₉ .ptr .1) (x₉ .name))) ∷
+        ‵ (fobs (x₉ .name) (codedHoleys u16 .code (heres u16 (x₉ .now)))) ∷ ‵ (fauth (x₉ .name) (codedHoleys u16 .code (heres u16 (x₉ .now)))) ∷
+        ‵ (fobor κ₅ q₅ (Held u16 (length (x₁₀ .now)) (x₁₀ .ptr .0) (x₁₀ .ptr .1) (x₁₀ .name))) ∷
+        ‵ (fobs (x₁₀ .name) (codedHoleys u16 .code (heres u16 (x₁₀ .now)))) ∷ ‵ (fauth (x₁₀ .name) (codedHoleys u16 .code (heres u16 (x₁₀ .now)))) ∷
+        ‵ (flft κ₀ q₀) ∷ ‵ (flft κ₁ q₁) ∷ ‵ (fdies (spell Mir.table (pointee (O .written))) l₀) ∷ dies-each (Args Inner) (
+        ‵ (fat fullShare (spell Mir.table tyBool) l₁ 0 (vbool begins)) ∷ ‵ (fdies (spell Mir.table tyBool) l₁) ∷ [])))
 
     -- the two bags that are only read
     abbrev owns-left : Item 𝓤
@@ -451,47 +453,18 @@ module _ {M : Type 1} (𝓤 : URA M) (H : Heap 𝓤) (A : Atoms 𝓤) (W : Given
 
     -- the parameters' locals, room for the others, what is only read, the borrows, their tokens, and the local of `begins`
     abbrev Start : List (Item 𝓤)
-    Start = ‵ (fat fullShare (spell Mir.table (tyInt w8)) l₂ 0 (vint w8 ls)) ∷ ‵ (fat fullShare (spell Mir.table pₗ) l₃ 0 (sliceVal (x₃ .ptr) (length (x₃ .now))))
-        ∷ ‵ (fat fullShare (spell Mir.table (tyInt w8)) l₄ 0 (vint w8 rs)) ∷ ‵ (fat fullShare (spell Mir.table pᵣ) l₅ 0 (sliceVal (x₅ .ptr) (length (x₅ .now))))
-        ∷ ‵ (fat fullShare (spell Mir.table (tyInt w64)) l₆ 0 (vint w64 m)) ∷ ‵ (fat fullShare (spell Mir.table (p 2 w8)) l₇ 0 (sliceVal (x₇ .ptr) (length (x₇ .now))))
-        ∷ ‵ (fat fullShare (spell Mir.table (p 3 w64)) l₈ 0 (sliceVal (x₈ .ptr) (length (x₈ .now)))) ∷ ‵ (fat fullShare (spell Mir.table (p 4 w16)) l₉ 0 (sliceVal (x₉ .ptr) (length (x₉ .now))))
-        ∷ ‵ (fat fullShare (spell Mir.table (p 5 w16)) l₁₀ 0 (sliceVal (x₁₀ .ptr) (length (x₁₀ .now)))) ∷ ‵ (fat fullShare (spell Mir.table (pointee (S .written))) l₁₁ 0 (U′.lowered h))
-        ∷ ‵ (fat fullShare (spell Mir.table (tyInt w64)) l₁₂ 0 (vint w64 budget)) ∷ ‵ (froom (spell Mir.table (pointee (O .written))) l₀ 0) ∷ ‵ (froom (spell Mir.table (tyArray (pointee (R .written)) N)) l₁₃ 0)
-        ∷ ‵ (froom (spell Mir.table (tyInt w64)) l₁₄ 0) ∷ ‵ (froom (spell Mir.table (pointee (S .written))) l₁₅ 0) ∷ ‵ (froom (spell Mir.table (pointee (B .written))) l₁₆ 0)
-        ∷ ‵ (froom (spell Mir.table (pointee (R .written))) l₁₇ 0) ∷ ‵ (froom (spell Mir.table (tyInt w64)) l₁₈ 0) ∷ ‵ (froom (spell Mir.table (tyInt w64)) l₁₉ 0) ∷ ‵ (froom (spell Mir.table (tyInt w64)) l₂₀ 0)
-        ∷ ‵ (froom (spell Mir.table (tyInt w64)) l₂₁ 0) ∷ ‵ (froom (spell Mir.table tyUnit) l₂₂ 0) ∷ ‵ (froom (spell Mir.table (tyRef erased mut (tyArray (pointee (R .written)) N))) l₂₃ 0)
-        ∷ ‵ (froom (spell Mir.table (sliceTy (tyRef erased mut (pointee (R .written))))) l₂₄ 0) ∷ ‵ (froom (spell Mir.table (tyRef erased imm (tyInt w8))) l₂₅ 0)
-        ∷ ‵ (froom (spell Mir.table (sliceTy (tyRef erased imm (tyInt w8)))) l₂₆ 0) ∷ ‵ (froom (spell Mir.table (tyRef erased imm (tyInt w64))) l₂₇ 0)
-        ∷ ‵ (froom (spell Mir.table (sliceTy (tyRef erased imm (tyInt w64)))) l₂₈ 0) ∷ ‵ (froom (spell Mir.table (tyRef erased imm (tyInt w16))) l₂₉ 0)
-        ∷ ‵ (froom (spell Mir.table (sliceTy (tyRef erased imm (tyInt w16)))) l₃₀ 0) ∷ ‵ (froom (spell Mir.table (tyRef erased imm (tyInt w16))) l₃₁ 0)
-        ∷ ‵ (froom (spell Mir.table (sliceTy (tyRef erased imm (tyInt w16)))) l₃₂ 0) ∷ ‵ (froom (spell Mir.table (tyRef erased mut (tyArray (pointee (R .written)) N))) l₃₃ 0)
-        ∷ ‵ (froom (spell Mir.table (sliceTy (tyRef erased mut (pointee (R .written))))) l₃₄ 0) ∷ ‵ (froom (spell Mir.table (tyRef erased mut (pointee (S .written)))) l₃₅ 0)
-        ∷ ‵ (froom (spell Mir.table (tyRef erased imm (tyArray (pointee (R .written)) N))) l₃₆ 0) ∷ ‵ (froom (spell Mir.table (sliceTy (tyRef erased imm (pointee (R .written))))) l₃₇ 0)
-        ∷ ‵ (froom (spell Mir.table (tyRef erased mut (tyInt w8))) l₃₈ 0) ∷ ‵ (froom (spell Mir.table (sliceTy (tyRef erased mut (tyInt w8)))) l₃₉ 0) ∷ ‵ (froom (spell Mir.table (tyRef erased mut (tyInt w64))) l₄₀ 0)
-        ∷ ‵ (froom (spell Mir.table (sliceTy (tyRef erased mut (tyInt w64)))) l₄₁ 0) ∷ ‵ (froom (spell Mir.table (tyRef erased mut (tyInt w16))) l₄₂ 0)
-        ∷ ‵ (froom (spell Mir.table (sliceTy (tyRef erased mut (tyInt w16)))) l₄₃ 0) ∷ ‵ (froom (spell Mir.table (tyRef erased mut (tyInt w16))) l₄₄ 0)
-        ∷ ‵ (froom (spell Mir.table (sliceTy (tyRef erased mut (tyInt w16)))) l₄₅ 0) ∷ ‵ (froom (spell Mir.table (pointee (S .written))) l₄₆ 0) ∷ owns-left ∷ owns-right ∷ ‵ (flft κ₀ q₀) ∷ ‵ (flft κ₁ q₁)
-        ∷ ‵ (fobs (x₇ .name) (codedHoleys u8 .code (heres u8 (x₇ .now)))) ∷ ‵ (fbor κ₂ (Held u8 (length (x₇ .now)) (x₇ .ptr .0) (x₇ .ptr .1) (x₇ .name))) ∷ ‵ (flft κ₂ q₂)
-        ∷ ‵ (fobs (x₈ .name) (codedHoleys u64 .code (heres u64 (x₈ .now)))) ∷ ‵ (fbor κ₃ (Held u64 (length (x₈ .now)) (x₈ .ptr .0) (x₈ .ptr .1) (x₈ .name))) ∷ ‵ (flft κ₃ q₃)
-        ∷ ‵ (fobs (x₉ .name) (codedHoleys u16 .code (heres u16 (x₉ .now)))) ∷ ‵ (fbor κ₄ (Held u16 (length (x₉ .now)) (x₉ .ptr .0) (x₉ .ptr .1) (x₉ .name))) ∷ ‵ (flft κ₄ q₄)
-        ∷ ‵ (fobs (x₁₀ .name) (codedHoleys u16 .code (heres u16 (x₁₀ .now)))) ∷ ‵ (fbor κ₅ (Held u16 (length (x₁₀ .now)) (x₁₀ .ptr .0) (x₁₀ .ptr .1) (x₁₀ .name))) ∷ ‵ (flft κ₅ q₅)
-        ∷ ‵ (fdies (spell Mir.table (pointee (O .written))) l₀) ∷ ‵ (fdies (spell Mir.table (tyInt w8)) l₂) ∷ ‵ (fdies (spell Mir.table pₗ) l₃) ∷ ‵ (fdies (spell Mir.table (tyInt w8)) l₄)
-        ∷ ‵ (fdies (spell Mir.table pᵣ) l₅) ∷ ‵ (fdies (spell Mir.table (tyInt w64)) l₆) ∷ ‵ (fdies (spell Mir.table (p 2 w8)) l₇) ∷ ‵ (fdies (spell Mir.table (p 3 w64)) l₈) ∷ ‵ (fdies (spell Mir.table (p 4 w16)) l₉)
-        ∷ ‵ (fdies (spell Mir.table (p 5 w16)) l₁₀) ∷ ‵ (fdies (spell Mir.table (pointee (S .written))) l₁₁) ∷ ‵ (fdies (spell Mir.table (tyInt w64)) l₁₂)
-        ∷ ‵ (fdies (spell Mir.table (tyArray (pointee (R .written)) N)) l₁₃) ∷ ‵ (fdies (spell Mir.table (tyInt w64)) l₁₄) ∷ ‵ (fdies (spell Mir.table (pointee (S .written))) l₁₅)
-        ∷ ‵ (fdies (spell Mir.table (pointee (B .written))) l₁₆) ∷ ‵ (fdies (spell Mir.table (pointee (R .written))) l₁₇) ∷ ‵ (fdies (spell Mir.table (tyInt w64)) l₁₈) ∷ ‵ (fdies (spell Mir.table (tyInt w64)) l₁₉)
-        ∷ ‵ (fdies (spell Mir.table (tyInt w64)) l₂₀) ∷ ‵ (fdies (spell Mir.table (tyInt w64)) l₂₁) ∷ ‵ (fdies (spell Mir.table tyUnit) l₂₂)
-        ∷ ‵ (fdies (spell Mir.table (tyRef erased mut (tyArray (pointee (R .written)) N))) l₂₃) ∷ ‵ (fdies (spell Mir.table (sliceTy (tyRef erased mut (pointee (R .written))))) l₂₄)
-        ∷ ‵ (fdies (spell Mir.table (tyRef erased imm (tyInt w8))) l₂₅) ∷ ‵ (fdies (spell Mir.table (sliceTy (tyRef erased imm (tyInt w8)))) l₂₆) ∷ ‵ (fdies (spell Mir.table (tyRef erased imm (tyInt w64))) l₂₇)
-        ∷ ‵ (fdies (spell Mir.table (sliceTy (tyRef erased imm (tyInt w64)))) l₂₈) ∷ ‵ (fdies (spell Mir.table (tyRef erased imm (tyInt w16))) l₂₉)
-        ∷ ‵ (fdies (spell Mir.table (sliceTy (tyRef erased imm (tyInt w16)))) l₃₀) ∷ ‵ (fdies (spell Mir.table (tyRef erased imm (tyInt w16))) l₃₁)
-        ∷ ‵ (fdies (spell Mir.table (sliceTy (tyRef erased imm (tyInt w16)))) l₃₂) ∷ ‵ (fdies (spell Mir.table (tyRef erased mut (tyArray (pointee (R .written)) N))) l₃₃)
-        ∷ ‵ (fdies (spell Mir.table (sliceTy (tyRef erased mut (pointee (R .written))))) l₃₄) ∷ ‵ (fdies (spell Mir.table (tyRef erased mut (pointee (S .written)))) l₃₅)
-        ∷ ‵ (fdies (spell Mir.table (tyRef erased imm (tyArray (pointee (R .written)) N))) l₃₆) ∷ ‵ (fdies (spell Mir.table (sliceTy (tyRef erased imm (pointee (R .written))))) l₃₇)
-        ∷ ‵ (fdies (spell Mir.table (tyRef erased mut (tyInt w8))) l₃₈) ∷ ‵ (fdies (spell Mir.table (sliceTy (tyRef erased mut (tyInt w8)))) l₃₉) ∷ ‵ (fdies (spell Mir.table (tyRef erased mut (tyInt w64))) l₄₀)
-        ∷ ‵ (fdies (spell Mir.table (sliceTy (tyRef erased mut (tyInt w64)))) l₄₁) ∷ ‵ (fdies (spell Mir.table (tyRef erased mut (tyInt w16))) l₄₂)
-        ∷ ‵ (fdies (spell Mir.table (sliceTy (tyRef erased mut (tyInt w16)))) l₄₃) ∷ ‵ (fdies (spell Mir.table (tyRef erased mut (tyInt w16))) l₄₄)
-        ∷ ‵ (fdies (spell Mir.table (sliceTy (tyRef erased mut (tyInt w16)))) l₄₅) ∷ ‵ (fdies (spell Mir.table (pointee (S .written))) l₄₆) ∷ ‵ (fat fullShare (spell Mir.table tyBool) l₁ 0 (vbool begins)) ∷ ‵ (fdies (spell Mir.table tyBool) l₁) ∷ []
+    Start =
+        Params (‵ (froom (spell Mir.table (pointee (O .written))) l₀ 0) ∷ room-each Inner (owns-left ∷ owns-right ∷ ‵ (flft κ₀ q₀) ∷ ‵ (flft κ₁ q₁) ∷
+        ‵ (fobs (x₇ .name) (codedHoleys u8 .code (heres u8 (x₇ .now)))) ∷
+        ‵ (fbor κ₂ (Held u8 (length (x₇ .now)) (x₇ .ptr .0) (x₇ .ptr .1) (x₇ .name))) ∷ ‵ (flft κ₂ q₂) ∷
+        ‵ (fobs (x₈ .name) (codedHoleys u64 .code (heres u64 (x₈ .now)))) ∷
+        ‵ (fbor κ₃ (Held u64 (length (x₈ .now)) (x₈ .ptr .0) (x₈ .ptr .1) (x₈ .name))) ∷ ‵ (flft κ₃ q₃) ∷
+        ‵ (fobs (x₉ .name) (codedHoleys u16 .code (heres u16 (x₉ .now)))) ∷
+        ‵ (fbor κ₄ (Held u16 (length (x₉ .now)) (x₉ .ptr .0) (x₉ .ptr .1) (x₉ .name))) ∷ ‵ (flft κ₄ q₄) ∷
+        ‵ (fobs (x₁₀ .name) (codedHoleys u16 .code (heres u16 (x₁₀ .now)))) ∷
+        ‵ (fbor κ₅ (Held u16 (length (x₁₀ .now)) (x₁₀ .ptr .0) (x₁₀ .ptr .1) (x₁₀ .name))) ∷ ‵ (flft κ₅ q₅) ∷
+        ‵ (fdies (spell Mir.table (pointee (O .written))) l₀) ∷ dies-each (Args Inner) (
+        ‵ (fat fullShare (spell Mir.table tyBool) l₁ 0 (vbool begins)) ∷ ‵ (fdies (spell Mir.table tyBool) l₁) ∷ [])))
 
     from-start : ent 𝓤 (⋆ 𝓤 H A Start) (Wp 𝓤 H C Λ En Mir.t-1 (atReturn 𝓤 H En Post))
     from-start =
@@ -522,7 +495,7 @@ module _ {M : Type 1} (𝓤 : URA M) (H : Heap 𝓤) (A : Atoms 𝓤) (W : Given
   module _ (C : Calls 𝓤 H) (Λ : Loops 𝓤 H) (fm : FmC 𝓤 H (W .laws) C) (known-least : Triple 𝓤 (C #compare·rows-lent) (Least 𝓤 H A at-mem run)) (known-store : Triple 𝓤 (C #compare·store) (Store 𝓤 H A at-mem run))
       (known-call : Triple 𝓤 (C #compare·call) (Call 𝓤 H A at-mem run)) (known-load : Triple 𝓤 (C #compare·load) (Load 𝓤 H A at-mem run)) where
     walk : ent 𝓤 (onEntry 𝓤 H A table.signature κs (q₀, (q₁, (q₂, (q₃, (q₄, (q₅, tt)))))) a at)
-        (WpFn 𝓤 H C Λ code.function (vbool begins ∷ vint w8 ls ∷ sliceVal (x₃ .ptr) (length (x₃ .now)) ∷ vint w8 rs ∷ sliceVal (x₅ .ptr) (length (x₅ .now)) ∷ vint w64 m ∷ sliceVal (x₇ .ptr) (length (x₇ .now)) ∷ sliceVal (x₈ .ptr) (length (x₈ .now)) ∷ sliceVal (x₉ .ptr) (length (x₉ .now)) ∷ sliceVal (x₁₀ .ptr) (length (x₁₀ .now)) ∷ U′.lowered h ∷ vint w64 budget ∷ []) Post)
+        (WpFn 𝓤 H C Λ code.function (vbool begins ∷ passed) Post)
     walk =
         qed W ((‵ (flft κ₀ q₀) ⊛ ‵ (flft κ₁ q₁) ⊛ ‵ (flft κ₂ q₂) ⊛ ‵ (flft κ₃ q₃) ⊛ ‵ (flft κ₄ q₄) ⊛ ‵ (flft κ₅ q₅) ⊛ ‵ ftrue)
         ∷ ‵ (owns (bool ∷ u8 ∷ ShrSlice (named 0) κ₀ u32 ∷ u8 ∷ ShrSlice (named 1) κ₁ u32 ∷ usize ∷ MutSlice (named 2) κ₂ u8 ∷ MutSlice (named 3) κ₃ u64 ∷ MutSlice (named 4) κ₄ u16 ∷ MutSlice (named 5) κ₅ u16 ∷ S ∷ u64 ∷ []) a at) ∷ []) ∵

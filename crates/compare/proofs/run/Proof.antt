@@ -12,7 +12,7 @@ use mir.Syntax.{named, erased, imm, mut, w8, w16, w32, w64, tyUnit, tyInt, tyArr
 use mir.Table.{spell}
 use mir.Val.{Val, vint, vptr}
 use base.Logic.{SProp, ent, sep, emp, via, fst∗, id⊢}
-use base.Fml.{Lft, GName, Share, ftrue, fat, froom, fdies, flft, fobs, fauth, fbor, fobor}
+use base.Fml.{Lft, GName, Share, ftrue, fat, froom, flft, fobs, fauth, fbor, fobor}
 use prog.Memory.{Memory}
 use prog.Routine.{Routine}
 use prog.Wp.{Heap, Env, Calls, Loops, Wp, atReturn, WpFn, Tables}
@@ -64,6 +64,7 @@ use Rattle.compare.proofs.Next.Laws as Y′
 use Rattle.compare.proofs.Answered as Z
 use Rattle.compare.proofs.Answered.Laws as Z′
 use Rattle.compare.proofs.Lent.{big-lit, fills, unboxes, row-array, lend-row, row-back, share-row, unshare-row}
+use Rattle.compare.proofs.Frames.{has-each, room-each, dies-each}
 use Rattle.compare.proofs.Calling.{load-fits, run-fits, runs-rows}
 use Rattle.compare.proofs.Callees.{R, S, X, B, One, at-list, typed-run, typed-next, typed-answer, is-next, is-run, rows-fit, is-answer, Store, to-store, goes-store}
 use Rattle.compare.proofs.Loading.{zeros, zeros-is, zeros-long, room-u8, room-u16, room-u64, Six, Used, Load, to-used, goes-used, used-of, to-load, goes-load}
@@ -136,6 +137,12 @@ module _ {M : Type 1} (𝓤 : URA M) (H : Heap 𝓤) (A : Atoms 𝓤) (W : Given
 
   abbrev a : Arg
   a = (ls, (x₁, (rs, (x₂, (x₃, (x₄, (budget, tt)))))))
+
+  -- what is passed
+  abbrev passed : List Val
+  passed =
+      vint w8 ls ∷ sliceVal (x₁ .ptr) (length (x₁ .now)) ∷ vint w8 rs ∷ sliceVal (x₂ .ptr) (length (x₂ .now)) ∷ sliceVal (x₃ .ptr) (length ys) ∷
+      vptr (x₄ .ptr .0) (x₄ .ptr .1) ∷ vint w64 budget ∷ []
 
   abbrev at : Vals run′.signature (κ₀, (κ₁, (κ₂, (κ₃, tt))))
   at = (vint w8 ls ∷ [], (slice-vals x₁, (vint w8 rs ∷ [], (slice-vals x₂, (slice-vals x₃, (ptr-vals x₄, (vint w64 budget ∷ [], tt)))))))
@@ -220,75 +227,60 @@ module _ {M : Type 1} (𝓤 : URA M) (H : Heap 𝓤) (A : Atoms 𝓤) (W : Given
   module _ (C : Calls 𝓤 H) (Λ : Loops 𝓤 H) (fm : FmC 𝓤 H (W .laws) C) (known-used : Triple 𝓤 (C #compare·used-within) (Used 𝓤 H A at-mem run)) (known-load : Triple 𝓤 (C #compare·load) (Load 𝓤 H A at-mem run))
       (known-core : Triple 𝓤 (C #compare·run-columns) (Core 𝓤 H A at-mem run)) (known-store : Triple 𝓤 (C #compare·store) (Store 𝓤 H A at-mem run))
       (l₀ l₁ l₂ l₃ l₄ l₅ l₆ l₇ l₈ l₉ l₁₀ l₁₁ l₁₂ l₁₃ l₁₄ l₁₅ l₁₆ l₁₇ l₁₈ l₁₉ l₂₀ l₂₁ l₂₂ l₂₃ l₂₄ l₂₅ l₂₆ l₂₇ l₂₈ l₂₉ l₃₀ l₃₁ l₃₂ l₃₃ l₃₄ l₃₅ l₃₆ l₃₇ l₃₈ l₃₉ l₄₀ l₄₁ l₄₂ l₄₃ l₄₄ : ℕ) where
+    -- the locals: the result; the parameters (`Args`); what the body names (`Inner`); the temporaries (`Temps`)
+    abbrev Temps : Env 𝓤 H
+    Temps =
+        (spell Mir.table tyUnit, l₁₆) ∷ (spell Mir.table (tyRef erased imm (pointee (R .written))), l₁₇) ∷
+        (spell Mir.table (sliceTy (tyRef erased imm (pointee (R .written)))), l₁₈) ∷
+        (spell Mir.table (tyRef erased mut (tyArray (tyInt w8) N)), l₁₉) ∷ (spell Mir.table (sliceTy (tyRef erased mut (tyInt w8))), l₂₀) ∷
+        (spell Mir.table (tyRef erased mut (tyArray (tyInt w64) N)), l₂₁) ∷ (spell Mir.table (sliceTy (tyRef erased mut (tyInt w64))), l₂₂) ∷
+        (spell Mir.table (tyRef erased mut (tyArray (tyInt w16) N)), l₂₃) ∷ (spell Mir.table (sliceTy (tyRef erased mut (tyInt w16))), l₂₄) ∷
+        (spell Mir.table (tyRef erased mut (tyArray (tyInt w16) N)), l₂₅) ∷ (spell Mir.table (sliceTy (tyRef erased mut (tyInt w16))), l₂₆) ∷
+        (spell Mir.table (tyRef erased mut (tyArray (tyInt w8) N)), l₂₇) ∷ (spell Mir.table (sliceTy (tyRef erased mut (tyInt w8))), l₂₈) ∷
+        (spell Mir.table (tyRef erased mut (tyArray (tyInt w64) N)), l₂₉) ∷ (spell Mir.table (sliceTy (tyRef erased mut (tyInt w64))), l₃₀) ∷
+        (spell Mir.table (tyRef erased mut (tyArray (tyInt w16) N)), l₃₁) ∷ (spell Mir.table (sliceTy (tyRef erased mut (tyInt w16))), l₃₂) ∷
+        (spell Mir.table (tyRef erased mut (tyArray (tyInt w16) N)), l₃₃) ∷ (spell Mir.table (sliceTy (tyRef erased mut (tyInt w16))), l₃₄) ∷
+        (spell Mir.table (tyRef erased mut (pointee (R .written))), l₃₅) ∷
+        (spell Mir.table (sliceTy (tyRef erased mut (pointee (R .written)))), l₃₆) ∷
+        (spell Mir.table (tyRef erased imm (tyArray (tyInt w8) N)), l₃₇) ∷ (spell Mir.table (sliceTy (tyRef erased imm (tyInt w8))), l₃₈) ∷
+        (spell Mir.table (tyRef erased imm (tyArray (tyInt w64) N)), l₃₉) ∷ (spell Mir.table (sliceTy (tyRef erased imm (tyInt w64))), l₄₀) ∷
+        (spell Mir.table (tyRef erased imm (tyArray (tyInt w16) N)), l₄₁) ∷ (spell Mir.table (sliceTy (tyRef erased imm (tyInt w16))), l₄₂) ∷
+        (spell Mir.table (tyRef erased imm (tyArray (tyInt w16) N)), l₄₃) ∷ (spell Mir.table (sliceTy (tyRef erased imm (tyInt w16))), l₄₄) ∷ []
+
+    abbrev Inner : Env 𝓤 H
+    Inner =
+        (spell Mir.table (tyArray (tyInt w8) N), l₈) ∷ (spell Mir.table (tyArray (tyInt w64) N), l₉) ∷
+        (spell Mir.table (tyArray (tyInt w16) N), l₁₀) ∷ (spell Mir.table (tyArray (tyInt w16) N), l₁₁) ∷ (spell Mir.table (tyInt w64), l₁₂) ∷
+        (spell Mir.table (pointee (S .written)), l₁₃) ∷ (spell Mir.table (tyInt w64), l₁₄) ∷ (spell Mir.table (pointee (X .written)), l₁₅) ∷ Temps
+
+    abbrev Args : Env 𝓤 H → Env 𝓤 H
+    Args e =
+        (spell Mir.table (tyInt w8), l₁) ∷ (spell Mir.table (sliceTy (tyRef (named 0) imm (tyInt w32))), l₂) ∷ (spell Mir.table (tyInt w8), l₃) ∷
+        (spell Mir.table (sliceTy (tyRef (named 1) imm (tyInt w32))), l₄) ∷
+        (spell Mir.table (sliceTy (tyRef (named 2) mut (pointee (R .written)))), l₅) ∷
+        (spell Mir.table (tyRef (named 3) mut (pointee (S .written))), l₆) ∷ (spell Mir.table (tyInt w64), l₇) ∷ e
+
     abbrev En : Env 𝓤 H
-    En = ((spell Mir.table (pointee (B .written))), l₀) ∷ ((spell Mir.table (tyInt w8)), l₁) ∷ ((spell Mir.table (sliceTy (tyRef (named 0) imm (tyInt w32)))), l₂) ∷ ((spell Mir.table (tyInt w8)), l₃) ∷
-        ((spell Mir.table (sliceTy (tyRef (named 1) imm (tyInt w32)))), l₄) ∷ ((spell Mir.table (sliceTy (tyRef (named 2) mut (pointee (R .written))))), l₅) ∷
-        ((spell Mir.table (tyRef (named 3) mut (pointee (S .written)))), l₆) ∷ ((spell Mir.table (tyInt w64)), l₇) ∷ ((spell Mir.table (tyArray (tyInt w8) N)), l₈) ∷
-        ((spell Mir.table (tyArray (tyInt w64) N)), l₉) ∷ ((spell Mir.table (tyArray (tyInt w16) N)), l₁₀) ∷ ((spell Mir.table (tyArray (tyInt w16) N)), l₁₁) ∷ ((spell Mir.table (tyInt w64)), l₁₂) ∷
-        ((spell Mir.table (pointee (S .written))), l₁₃) ∷ ((spell Mir.table (tyInt w64)), l₁₄) ∷ ((spell Mir.table (pointee (X .written))), l₁₅) ∷ ((spell Mir.table tyUnit), l₁₆) ∷
-        ((spell Mir.table (tyRef erased imm (pointee (R .written)))), l₁₇) ∷ ((spell Mir.table (sliceTy (tyRef erased imm (pointee (R .written))))), l₁₈) ∷
-        ((spell Mir.table (tyRef erased mut (tyArray (tyInt w8) N))), l₁₉) ∷ ((spell Mir.table (sliceTy (tyRef erased mut (tyInt w8)))), l₂₀) ∷
-        ((spell Mir.table (tyRef erased mut (tyArray (tyInt w64) N))), l₂₁) ∷ ((spell Mir.table (sliceTy (tyRef erased mut (tyInt w64)))), l₂₂) ∷
-        ((spell Mir.table (tyRef erased mut (tyArray (tyInt w16) N))), l₂₃) ∷ ((spell Mir.table (sliceTy (tyRef erased mut (tyInt w16)))), l₂₄) ∷
-        ((spell Mir.table (tyRef erased mut (tyArray (tyInt w16) N))), l₂₅) ∷ ((spell Mir.table (sliceTy (tyRef erased mut (tyInt w16)))), l₂₆) ∷
-        ((spell Mir.table (tyRef erased mut (tyArray (tyInt w8) N))), l₂₇) ∷ ((spell Mir.table (sliceTy (tyRef erased mut (tyInt w8)))), l₂₈) ∷
-        ((spell Mir.table (tyRef erased mut (tyArray (tyInt w64) N))), l₂₉) ∷ ((spell Mir.table (sliceTy (tyRef erased mut (tyInt w64)))), l₃₀) ∷
-        ((spell Mir.table (tyRef erased mut (tyArray (tyInt w16) N))), l₃₁) ∷ ((spell Mir.table (sliceTy (tyRef erased mut (tyInt w16)))), l₃₂) ∷
-        ((spell Mir.table (tyRef erased mut (tyArray (tyInt w16) N))), l₃₃) ∷ ((spell Mir.table (sliceTy (tyRef erased mut (tyInt w16)))), l₃₄) ∷
-        ((spell Mir.table (tyRef erased mut (pointee (R .written)))), l₃₅) ∷ ((spell Mir.table (sliceTy (tyRef erased mut (pointee (R .written))))), l₃₆) ∷
-        ((spell Mir.table (tyRef erased imm (tyArray (tyInt w8) N))), l₃₇) ∷ ((spell Mir.table (sliceTy (tyRef erased imm (tyInt w8)))), l₃₈) ∷
-        ((spell Mir.table (tyRef erased imm (tyArray (tyInt w64) N))), l₃₉) ∷ ((spell Mir.table (sliceTy (tyRef erased imm (tyInt w64)))), l₄₀) ∷
-        ((spell Mir.table (tyRef erased imm (tyArray (tyInt w16) N))), l₄₁) ∷ ((spell Mir.table (sliceTy (tyRef erased imm (tyInt w16)))), l₄₂) ∷
-        ((spell Mir.table (tyRef erased imm (tyArray (tyInt w16) N))), l₄₃) ∷ ((spell Mir.table (sliceTy (tyRef erased imm (tyInt w16)))), l₄₄) ∷ []
+    En = (spell Mir.table (pointee (B .written)), l₀) ∷ Args Inner
+
+    -- the parameters' locals, with what was passed
+    abbrev Params : List (Item 𝓤) → List (Item 𝓤)
+    Params Γ = has-each (Args []) passed Γ
 
     -- between two calls: the rows; the columns; the parameters' locals, the number of rows, the record, n, and what `run_columns` returned,
     -- or room for it; room for the other locals; the open borrows; the two sides' tokens and borrows; and that each local dies
     abbrev At : ℕ → List Row → Columns → Item 𝓤 → Item 𝓤 → Item 𝓤 → List (Item 𝓤)
-    At n rows c next left right = ‵ (row R fullShare rows (x₃ .ptr .0) (x₃ .ptr .1)) ∷ ‵ (row u8 fullShare (c .places) l₈ 0) ∷ ‵ (row u64 fullShare (c .sets) l₉ 0) ∷ ‵ (row u16 fullShare (c .parents) l₁₀ 0) ∷
-        ‵ (row u16 fullShare (c .letters) l₁₁ 0) ∷ ‵ (fat fullShare (spell Mir.table (tyInt w8)) l₁ 0 (vint w8 ls)) ∷
-        ‵ (fat fullShare (spell Mir.table (sliceTy (tyRef (named 0) imm (tyInt w32)))) l₂ 0 (sliceVal (x₁ .ptr) (length (x₁ .now)))) ∷ ‵ (fat fullShare (spell Mir.table (tyInt w8)) l₃ 0 (vint w8 rs)) ∷
-        ‵ (fat fullShare (spell Mir.table (sliceTy (tyRef (named 1) imm (tyInt w32)))) l₄ 0 (sliceVal (x₂ .ptr) (length (x₂ .now)))) ∷
-        ‵ (fat fullShare (spell Mir.table (sliceTy (tyRef (named 2) mut (pointee (R .written))))) l₅ 0 (sliceVal (x₃ .ptr) (length ys))) ∷
-        ‵ (fat fullShare (spell Mir.table (tyRef (named 3) mut (pointee (S .written)))) l₆ 0 (vptr (x₄ .ptr .0) (x₄ .ptr .1))) ∷ ‵ (fat fullShare (spell Mir.table (tyInt w64)) l₇ 0 (vint w64 budget)) ∷
-        ‵ (fat fullShare (spell Mir.table (tyInt w64)) l₁₂ 0 (vint w64 (length ys))) ∷ ‵ (fat fullShare (spell Mir.table (pointee (S .written))) l₁₃ 0 (U′.lowered h)) ∷
-        ‵ (fat fullShare (spell Mir.table (tyInt w64)) l₁₄ 0 (vint w64 n)) ∷ next ∷ ‵ (froom (spell Mir.table (pointee (B .written))) l₀ 0) ∷ ‵ (froom (spell Mir.table tyUnit) l₁₆ 0) ∷
-        ‵ (froom (spell Mir.table (tyRef erased imm (pointee (R .written)))) l₁₇ 0) ∷ ‵ (froom (spell Mir.table (sliceTy (tyRef erased imm (pointee (R .written))))) l₁₈ 0) ∷
-        ‵ (froom (spell Mir.table (tyRef erased mut (tyArray (tyInt w8) N))) l₁₉ 0) ∷ ‵ (froom (spell Mir.table (sliceTy (tyRef erased mut (tyInt w8)))) l₂₀ 0) ∷
-        ‵ (froom (spell Mir.table (tyRef erased mut (tyArray (tyInt w64) N))) l₂₁ 0) ∷ ‵ (froom (spell Mir.table (sliceTy (tyRef erased mut (tyInt w64)))) l₂₂ 0) ∷
-        ‵ (froom (spell Mir.table (tyRef erased mut (tyArray (tyInt w16) N))) l₂₃ 0) ∷ ‵ (froom (spell Mir.table (sliceTy (tyRef erased mut (tyInt w16)))) l₂₄ 0) ∷
-        ‵ (froom (spell Mir.table (tyRef erased mut (tyArray (tyInt w16) N))) l₂₅ 0) ∷ ‵ (froom (spell Mir.table (sliceTy (tyRef erased mut (tyInt w16)))) l₂₆ 0) ∷
-        ‵ (froom (spell Mir.table (tyRef erased mut (tyArray (tyInt w8) N))) l₂₇ 0) ∷ ‵ (froom (spell Mir.table (sliceTy (tyRef erased mut (tyInt w8)))) l₂₈ 0) ∷
-        ‵ (froom (spell Mir.table (tyRef erased mut (tyArray (tyInt w64) N))) l₂₉ 0) ∷ ‵ (froom (spell Mir.table (sliceTy (tyRef erased mut (tyInt w64)))) l₃₀ 0) ∷
-        ‵ (froom (spell Mir.table (tyRef erased mut (tyArray (tyInt w16) N))) l₃₁ 0) ∷ ‵ (froom (spell Mir.table (sliceTy (tyRef erased mut (tyInt w16)))) l₃₂ 0) ∷
-        ‵ (froom (spell Mir.table (tyRef erased mut (tyArray (tyInt w16) N))) l₃₃ 0) ∷ ‵ (froom (spell Mir.table (sliceTy (tyRef erased mut (tyInt w16)))) l₃₄ 0) ∷
-        ‵ (froom (spell Mir.table (tyRef erased mut (pointee (R .written)))) l₃₅ 0) ∷ ‵ (froom (spell Mir.table (sliceTy (tyRef erased mut (pointee (R .written))))) l₃₆ 0) ∷
-        ‵ (froom (spell Mir.table (tyRef erased imm (tyArray (tyInt w8) N))) l₃₇ 0) ∷ ‵ (froom (spell Mir.table (sliceTy (tyRef erased imm (tyInt w8)))) l₃₈ 0) ∷
-        ‵ (froom (spell Mir.table (tyRef erased imm (tyArray (tyInt w64) N))) l₃₉ 0) ∷ ‵ (froom (spell Mir.table (sliceTy (tyRef erased imm (tyInt w64)))) l₄₀ 0) ∷
-        ‵ (froom (spell Mir.table (tyRef erased imm (tyArray (tyInt w16) N))) l₄₁ 0) ∷ ‵ (froom (spell Mir.table (sliceTy (tyRef erased imm (tyInt w16)))) l₄₂ 0) ∷
-        ‵ (froom (spell Mir.table (tyRef erased imm (tyArray (tyInt w16) N))) l₄₃ 0) ∷ ‵ (froom (spell Mir.table (sliceTy (tyRef erased imm (tyInt w16)))) l₄₄ 0) ∷
-        ‵ (cellAt fullShare (S .mir) (U′.lowered h ∷ []) (x₄ .ptr .0) (x₄ .ptr .1)) ∷ ‵ (fobor κ₃ q₃ (Body (mem S) (x₄ .ptr .0) (x₄ .ptr .1) (x₄ .name))) ∷ ‵ (fobs (x₄ .name) (S .coded .code h)) ∷
-        ‵ (fauth (x₄ .name) (S .coded .code h)) ∷ ‵ (fobor κ₂ q₂ (Held R (length ys) (x₃ .ptr .0) (x₃ .ptr .1) (x₃ .name))) ∷ ‵ (fobs (x₃ .name) (codedHoleys R .code (heres R ys))) ∷
-        ‵ (fauth (x₃ .name) (codedHoleys R .code (heres R ys))) ∷ ‵ (flft κ₀ q₀) ∷ ‵ (flft κ₁ q₁) ∷ left ∷ right ∷ ‵ (fdies (spell Mir.table (pointee (B .written))) l₀) ∷
-        ‵ (fdies (spell Mir.table (tyInt w8)) l₁) ∷ ‵ (fdies (spell Mir.table (sliceTy (tyRef (named 0) imm (tyInt w32)))) l₂) ∷ ‵ (fdies (spell Mir.table (tyInt w8)) l₃) ∷
-        ‵ (fdies (spell Mir.table (sliceTy (tyRef (named 1) imm (tyInt w32)))) l₄) ∷ ‵ (fdies (spell Mir.table (sliceTy (tyRef (named 2) mut (pointee (R .written))))) l₅) ∷
-        ‵ (fdies (spell Mir.table (tyRef (named 3) mut (pointee (S .written)))) l₆) ∷ ‵ (fdies (spell Mir.table (tyInt w64)) l₇) ∷ ‵ (fdies (spell Mir.table (tyArray (tyInt w8) N)) l₈) ∷
-        ‵ (fdies (spell Mir.table (tyArray (tyInt w64) N)) l₉) ∷ ‵ (fdies (spell Mir.table (tyArray (tyInt w16) N)) l₁₀) ∷ ‵ (fdies (spell Mir.table (tyArray (tyInt w16) N)) l₁₁) ∷
-        ‵ (fdies (spell Mir.table (tyInt w64)) l₁₂) ∷ ‵ (fdies (spell Mir.table (pointee (S .written))) l₁₃) ∷ ‵ (fdies (spell Mir.table (tyInt w64)) l₁₄) ∷
-        ‵ (fdies (spell Mir.table (pointee (X .written))) l₁₅) ∷ ‵ (fdies (spell Mir.table tyUnit) l₁₆) ∷ ‵ (fdies (spell Mir.table (tyRef erased imm (pointee (R .written)))) l₁₇) ∷
-        ‵ (fdies (spell Mir.table (sliceTy (tyRef erased imm (pointee (R .written))))) l₁₈) ∷ ‵ (fdies (spell Mir.table (tyRef erased mut (tyArray (tyInt w8) N))) l₁₉) ∷
-        ‵ (fdies (spell Mir.table (sliceTy (tyRef erased mut (tyInt w8)))) l₂₀) ∷ ‵ (fdies (spell Mir.table (tyRef erased mut (tyArray (tyInt w64) N))) l₂₁) ∷
-        ‵ (fdies (spell Mir.table (sliceTy (tyRef erased mut (tyInt w64)))) l₂₂) ∷ ‵ (fdies (spell Mir.table (tyRef erased mut (tyArray (tyInt w16) N))) l₂₃) ∷
-        ‵ (fdies (spell Mir.table (sliceTy (tyRef erased mut (tyInt w16)))) l₂₄) ∷ ‵ (fdies (spell Mir.table (tyRef erased mut (tyArray (tyInt w16) N))) l₂₅) ∷
-        ‵ (fdies (spell Mir.table (sliceTy (tyRef erased mut (tyInt w16)))) l₂₆) ∷ ‵ (fdies (spell Mir.table (tyRef erased mut (tyArray (tyInt w8) N))) l₂₇) ∷
-        ‵ (fdies (spell Mir.table (sliceTy (tyRef erased mut (tyInt w8)))) l₂₈) ∷ ‵ (fdies (spell Mir.table (tyRef erased mut (tyArray (tyInt w64) N))) l₂₉) ∷
-        ‵ (fdies (spell Mir.table (sliceTy (tyRef erased mut (tyInt w64)))) l₃₀) ∷ ‵ (fdies (spell Mir.table (tyRef erased mut (tyArray (tyInt w16) N))) l₃₁) ∷
-        ‵ (fdies (spell Mir.table (sliceTy (tyRef erased mut (tyInt w16)))) l₃₂) ∷ ‵ (fdies (spell Mir.table (tyRef erased mut (tyArray (tyInt w16) N))) l₃₃) ∷
-        ‵ (fdies (spell Mir.table (sliceTy (tyRef erased mut (tyInt w16)))) l₃₄) ∷ ‵ (fdies (spell Mir.table (tyRef erased mut (pointee (R .written)))) l₃₅) ∷
-        ‵ (fdies (spell Mir.table (sliceTy (tyRef erased mut (pointee (R .written))))) l₃₆) ∷ ‵ (fdies (spell Mir.table (tyRef erased imm (tyArray (tyInt w8) N))) l₃₇) ∷
-        ‵ (fdies (spell Mir.table (sliceTy (tyRef erased imm (tyInt w8)))) l₃₈) ∷ ‵ (fdies (spell Mir.table (tyRef erased imm (tyArray (tyInt w64) N))) l₃₉) ∷
-        ‵ (fdies (spell Mir.table (sliceTy (tyRef erased imm (tyInt w64)))) l₄₀) ∷ ‵ (fdies (spell Mir.table (tyRef erased imm (tyArray (tyInt w16) N))) l₄₁) ∷
-        ‵ (fdies (spell Mir.table (sliceTy (tyRef erased imm (tyInt w16)))) l₄₂) ∷ ‵ (fdies (spell Mir.table (tyRef erased imm (tyArray (tyInt w16) N))) l₄₃) ∷
-        ‵ (fdies (spell Mir.table (sliceTy (tyRef erased imm (tyInt w16)))) l₄₄) ∷ []
+    At n rows c next left right =
+        ‵ (row R fullShare rows (x₃ .ptr .0) (x₃ .ptr .1)) ∷ ‵ (row u8 fullShare (c .places) l₈ 0) ∷ ‵ (row u64 fullShare (c .sets) l₉ 0) ∷
+        ‵ (row u16 fullShare (c .parents) l₁₀ 0) ∷ ‵ (row u16 fullShare (c .letters) l₁₁ 0) ∷ Params (
+        ‵ (fat fullShare (spell Mir.table (tyInt w64)) l₁₂ 0 (vint w64 (length ys))) ∷
+        ‵ (fat fullShare (spell Mir.table (pointee (S .written))) l₁₃ 0 (U′.lowered h)) ∷
+        ‵ (fat fullShare (spell Mir.table (tyInt w64)) l₁₄ 0 (vint w64 n)) ∷ next ∷ ‵ (froom (spell Mir.table (pointee (B .written))) l₀ 0) ∷
+        room-each Temps (‵ (cellAt fullShare (S .mir) (U′.lowered h ∷ []) (x₄ .ptr .0) (x₄ .ptr .1)) ∷
+        ‵ (fobor κ₃ q₃ (Body (mem S) (x₄ .ptr .0) (x₄ .ptr .1) (x₄ .name))) ∷ ‵ (fobs (x₄ .name) (S .coded .code h)) ∷
+        ‵ (fauth (x₄ .name) (S .coded .code h)) ∷ ‵ (fobor κ₂ q₂ (Held R (length ys) (x₃ .ptr .0) (x₃ .ptr .1) (x₃ .name))) ∷
+        ‵ (fobs (x₃ .name) (codedHoleys R .code (heres R ys))) ∷ ‵ (fauth (x₃ .name) (codedHoleys R .code (heres R ys))) ∷ ‵ (flft κ₀ q₀) ∷
+        ‵ (flft κ₁ q₁) ∷ left ∷ right ∷ dies-each En []))
 
     abbrev none : Item 𝓤
     none = ‵ (froom (spell Mir.table (pointee (X .written))) l₁₅ 0)
@@ -462,50 +454,11 @@ module _ {M : Type 1} (𝓤 : URA M) (H : Heap 𝓤) (A : Atoms 𝓤) (W : Given
 
     -- the parameters' locals, room for the others, and the borrows with their tokens
     abbrev Start : List (Item 𝓤)
-    Start = ‵ (fat fullShare (spell Mir.table (tyInt w8)) l₁ 0 (vint w8 ls)) ∷ ‵ (fat fullShare (spell Mir.table (sliceTy (tyRef (named 0) imm (tyInt w32)))) l₂ 0 (sliceVal (x₁ .ptr) (length (x₁ .now)))) ∷
-        ‵ (fat fullShare (spell Mir.table (tyInt w8)) l₃ 0 (vint w8 rs)) ∷ ‵ (fat fullShare (spell Mir.table (sliceTy (tyRef (named 1) imm (tyInt w32)))) l₄ 0 (sliceVal (x₂ .ptr) (length (x₂ .now)))) ∷
-        ‵ (fat fullShare (spell Mir.table (sliceTy (tyRef (named 2) mut (pointee (R .written))))) l₅ 0 (sliceVal (x₃ .ptr) (length ys))) ∷
-        ‵ (fat fullShare (spell Mir.table (tyRef (named 3) mut (pointee (S .written)))) l₆ 0 (vptr (x₄ .ptr .0) (x₄ .ptr .1))) ∷ ‵ (fat fullShare (spell Mir.table (tyInt w64)) l₇ 0 (vint w64 budget)) ∷
-        ‵ (froom (spell Mir.table (pointee (B .written))) l₀ 0) ∷ ‵ (froom (spell Mir.table (tyArray (tyInt w8) N)) l₈ 0) ∷ ‵ (froom (spell Mir.table (tyArray (tyInt w64) N)) l₉ 0) ∷
-        ‵ (froom (spell Mir.table (tyArray (tyInt w16) N)) l₁₀ 0) ∷ ‵ (froom (spell Mir.table (tyArray (tyInt w16) N)) l₁₁ 0) ∷ ‵ (froom (spell Mir.table (tyInt w64)) l₁₂ 0) ∷
-        ‵ (froom (spell Mir.table (pointee (S .written))) l₁₃ 0) ∷ ‵ (froom (spell Mir.table (tyInt w64)) l₁₄ 0) ∷ ‵ (froom (spell Mir.table (pointee (X .written))) l₁₅ 0) ∷
-        ‵ (froom (spell Mir.table tyUnit) l₁₆ 0) ∷ ‵ (froom (spell Mir.table (tyRef erased imm (pointee (R .written)))) l₁₇ 0) ∷
-        ‵ (froom (spell Mir.table (sliceTy (tyRef erased imm (pointee (R .written))))) l₁₈ 0) ∷ ‵ (froom (spell Mir.table (tyRef erased mut (tyArray (tyInt w8) N))) l₁₉ 0) ∷
-        ‵ (froom (spell Mir.table (sliceTy (tyRef erased mut (tyInt w8)))) l₂₀ 0) ∷ ‵ (froom (spell Mir.table (tyRef erased mut (tyArray (tyInt w64) N))) l₂₁ 0) ∷
-        ‵ (froom (spell Mir.table (sliceTy (tyRef erased mut (tyInt w64)))) l₂₂ 0) ∷ ‵ (froom (spell Mir.table (tyRef erased mut (tyArray (tyInt w16) N))) l₂₃ 0) ∷
-        ‵ (froom (spell Mir.table (sliceTy (tyRef erased mut (tyInt w16)))) l₂₄ 0) ∷ ‵ (froom (spell Mir.table (tyRef erased mut (tyArray (tyInt w16) N))) l₂₅ 0) ∷
-        ‵ (froom (spell Mir.table (sliceTy (tyRef erased mut (tyInt w16)))) l₂₆ 0) ∷ ‵ (froom (spell Mir.table (tyRef erased mut (tyArray (tyInt w8) N))) l₂₇ 0) ∷
-        ‵ (froom (spell Mir.table (sliceTy (tyRef erased mut (tyInt w8)))) l₂₈ 0) ∷ ‵ (froom (spell Mir.table (tyRef erased mut (tyArray (tyInt w64) N))) l₂₉ 0) ∷
-        ‵ (froom (spell Mir.table (sliceTy (tyRef erased mut (tyInt w64)))) l₃₀ 0) ∷ ‵ (froom (spell Mir.table (tyRef erased mut (tyArray (tyInt w16) N))) l₃₁ 0) ∷
-        ‵ (froom (spell Mir.table (sliceTy (tyRef erased mut (tyInt w16)))) l₃₂ 0) ∷ ‵ (froom (spell Mir.table (tyRef erased mut (tyArray (tyInt w16) N))) l₃₃ 0) ∷
-        ‵ (froom (spell Mir.table (sliceTy (tyRef erased mut (tyInt w16)))) l₃₄ 0) ∷ ‵ (froom (spell Mir.table (tyRef erased mut (pointee (R .written)))) l₃₅ 0) ∷
-        ‵ (froom (spell Mir.table (sliceTy (tyRef erased mut (pointee (R .written))))) l₃₆ 0) ∷ ‵ (froom (spell Mir.table (tyRef erased imm (tyArray (tyInt w8) N))) l₃₇ 0) ∷
-        ‵ (froom (spell Mir.table (sliceTy (tyRef erased imm (tyInt w8)))) l₃₈ 0) ∷ ‵ (froom (spell Mir.table (tyRef erased imm (tyArray (tyInt w64) N))) l₃₉ 0) ∷
-        ‵ (froom (spell Mir.table (sliceTy (tyRef erased imm (tyInt w64)))) l₄₀ 0) ∷ ‵ (froom (spell Mir.table (tyRef erased imm (tyArray (tyInt w16) N))) l₄₁ 0) ∷
-        ‵ (froom (spell Mir.table (sliceTy (tyRef erased imm (tyInt w16)))) l₄₂ 0) ∷ ‵ (froom (spell Mir.table (tyRef erased imm (tyArray (tyInt w16) N))) l₄₃ 0) ∷
-        ‵ (froom (spell Mir.table (sliceTy (tyRef erased imm (tyInt w16)))) l₄₄ 0) ∷ ‵ (fobs (x₄ .name) (S .coded .code h)) ∷ ‵ (fbor κ₃ (Body (mem S) (x₄ .ptr .0) (x₄ .ptr .1) (x₄ .name))) ∷
-        ‵ (flft κ₃ q₃) ∷ ‵ (fobs (x₃ .name) (codedHoleys R .code (heres R ys))) ∷ ‵ (fbor κ₂ (Held R (length ys) (x₃ .ptr .0) (x₃ .ptr .1) (x₃ .name))) ∷ ‵ (flft κ₂ q₂) ∷ ‵ (flft κ₀ q₀) ∷ ‵ (flft κ₁ q₁) ∷
-        lent₁ ∷ lent₂ ∷ ‵ (fdies (spell Mir.table (pointee (B .written))) l₀) ∷ ‵ (fdies (spell Mir.table (tyInt w8)) l₁) ∷ ‵ (fdies (spell Mir.table (sliceTy (tyRef (named 0) imm (tyInt w32)))) l₂) ∷
-        ‵ (fdies (spell Mir.table (tyInt w8)) l₃) ∷ ‵ (fdies (spell Mir.table (sliceTy (tyRef (named 1) imm (tyInt w32)))) l₄) ∷
-        ‵ (fdies (spell Mir.table (sliceTy (tyRef (named 2) mut (pointee (R .written))))) l₅) ∷ ‵ (fdies (spell Mir.table (tyRef (named 3) mut (pointee (S .written)))) l₆) ∷
-        ‵ (fdies (spell Mir.table (tyInt w64)) l₇) ∷ ‵ (fdies (spell Mir.table (tyArray (tyInt w8) N)) l₈) ∷ ‵ (fdies (spell Mir.table (tyArray (tyInt w64) N)) l₉) ∷
-        ‵ (fdies (spell Mir.table (tyArray (tyInt w16) N)) l₁₀) ∷ ‵ (fdies (spell Mir.table (tyArray (tyInt w16) N)) l₁₁) ∷ ‵ (fdies (spell Mir.table (tyInt w64)) l₁₂) ∷
-        ‵ (fdies (spell Mir.table (pointee (S .written))) l₁₃) ∷ ‵ (fdies (spell Mir.table (tyInt w64)) l₁₄) ∷ ‵ (fdies (spell Mir.table (pointee (X .written))) l₁₅) ∷
-        ‵ (fdies (spell Mir.table tyUnit) l₁₆) ∷ ‵ (fdies (spell Mir.table (tyRef erased imm (pointee (R .written)))) l₁₇) ∷
-        ‵ (fdies (spell Mir.table (sliceTy (tyRef erased imm (pointee (R .written))))) l₁₈) ∷ ‵ (fdies (spell Mir.table (tyRef erased mut (tyArray (tyInt w8) N))) l₁₉) ∷
-        ‵ (fdies (spell Mir.table (sliceTy (tyRef erased mut (tyInt w8)))) l₂₀) ∷ ‵ (fdies (spell Mir.table (tyRef erased mut (tyArray (tyInt w64) N))) l₂₁) ∷
-        ‵ (fdies (spell Mir.table (sliceTy (tyRef erased mut (tyInt w64)))) l₂₂) ∷ ‵ (fdies (spell Mir.table (tyRef erased mut (tyArray (tyInt w16) N))) l₂₃) ∷
-        ‵ (fdies (spell Mir.table (sliceTy (tyRef erased mut (tyInt w16)))) l₂₄) ∷ ‵ (fdies (spell Mir.table (tyRef erased mut (tyArray (tyInt w16) N))) l₂₅) ∷
-        ‵ (fdies (spell Mir.table (sliceTy (tyRef erased mut (tyInt w16)))) l₂₆) ∷ ‵ (fdies (spell Mir.table (tyRef erased mut (tyArray (tyInt w8) N))) l₂₇) ∷
-        ‵ (fdies (spell Mir.table (sliceTy (tyRef erased mut (tyInt w8)))) l₂₈) ∷ ‵ (fdies (spell Mir.table (tyRef erased mut (tyArray (tyInt w64) N))) l₂₉) ∷
-        ‵ (fdies (spell Mir.table (sliceTy (tyRef erased mut (tyInt w64)))) l₃₀) ∷ ‵ (fdies (spell Mir.table (tyRef erased mut (tyArray (tyInt w16) N))) l₃₁) ∷
-        ‵ (fdies (spell Mir.table (sliceTy (tyRef erased mut (tyInt w16)))) l₃₂) ∷ ‵ (fdies (spell Mir.table (tyRef erased mut (tyArray (tyInt w16) N))) l₃₃) ∷
-        ‵ (fdies (spell Mir.table (sliceTy (tyRef erased mut (tyInt w16)))) l₃₄) ∷ ‵ (fdies (spell Mir.table (tyRef erased mut (pointee (R .written)))) l₃₅) ∷
-        ‵ (fdies (spell Mir.table (sliceTy (tyRef erased mut (pointee (R .written))))) l₃₆) ∷ ‵ (fdies (spell Mir.table (tyRef erased imm (tyArray (tyInt w8) N))) l₃₇) ∷
-        ‵ (fdies (spell Mir.table (sliceTy (tyRef erased imm (tyInt w8)))) l₃₈) ∷ ‵ (fdies (spell Mir.table (tyRef erased imm (tyArray (tyInt w64) N))) l₃₉) ∷
-        ‵ (fdies (spell Mir.table (sliceTy (tyRef erased imm (tyInt w64)))) l₄₀) ∷ ‵ (fdies (spell Mir.table (tyRef erased imm (tyArray (tyInt w16) N))) l₄₁) ∷
-        ‵ (fdies (spell Mir.table (sliceTy (tyRef erased imm (tyInt w16)))) l₄₂) ∷ ‵ (fdies (spell Mir.table (tyRef erased imm (tyArray (tyInt w16) N))) l₄₃) ∷
-        ‵ (fdies (spell Mir.table (sliceTy (tyRef erased imm (tyInt w16)))) l₄₄) ∷ []
+    Start =
+        Params (‵ (froom (spell Mir.table (pointee (B .written))) l₀ 0) ∷ room-each Inner (‵ (fobs (x₄ .name) (S .coded .code h)) ∷
+        ‵ (fbor κ₃ (Body (mem S) (x₄ .ptr .0) (x₄ .ptr .1) (x₄ .name))) ∷ ‵ (flft κ₃ q₃) ∷ ‵ (fobs (x₃ .name) (codedHoleys R .code (heres R ys))) ∷
+        ‵ (fbor κ₂ (Held R (length ys) (x₃ .ptr .0) (x₃ .ptr .1) (x₃ .name))) ∷ ‵ (flft κ₂ q₂) ∷ ‵ (flft κ₀ q₀) ∷ ‵ (flft κ₁ q₁) ∷ lent₁ ∷ lent₂ ∷
+        dies-each En []))
 
     from-start : ent 𝓤 (⋆ 𝓤 H A Start) (Wp 𝓤 H C Λ En Mir.t-1 (atReturn 𝓤 H En Post))
     from-start =
@@ -532,7 +485,7 @@ module _ {M : Type 1} (𝓤 : URA M) (H : Heap 𝓤) (A : Atoms 𝓤) (W : Given
   module _ (C : Calls 𝓤 H) (Λ : Loops 𝓤 H) (fm : FmC 𝓤 H (W .laws) C) (known-used : Triple 𝓤 (C #compare·used-within) (Used 𝓤 H A at-mem run)) (known-load : Triple 𝓤 (C #compare·load) (Load 𝓤 H A at-mem run))
       (known-core : Triple 𝓤 (C #compare·run-columns) (Core 𝓤 H A at-mem run)) (known-store : Triple 𝓤 (C #compare·store) (Store 𝓤 H A at-mem run)) where
     walk : ent 𝓤 (onEntry 𝓤 H A run′.signature (κ₀, (κ₁, (κ₂, (κ₃, tt)))) (q₀, (q₁, (q₂, (q₃, tt)))) a at)
-        (WpFn 𝓤 H C Λ code.function (vint w8 ls ∷ sliceVal (x₁ .ptr) (length (x₁ .now)) ∷ vint w8 rs ∷ sliceVal (x₂ .ptr) (length (x₂ .now)) ∷ sliceVal (x₃ .ptr) (length ys) ∷ vptr (x₄ .ptr .0) (x₄ .ptr .1) ∷ vint w64 budget ∷ []) Post)
+        (WpFn 𝓤 H C Λ code.function passed Post)
     walk =
         qed W ((‵ (flft κ₀ q₀) ⊛ ‵ (flft κ₁ q₁) ⊛ ‵ (flft κ₂ q₂) ⊛ ‵ (flft κ₃ q₃) ⊛ ‵ ftrue)
         ∷ ‵ (owns (u8 ∷ ShrSlice (named 0) κ₀ u32 ∷ u8 ∷ ShrSlice (named 1) κ₁ u32 ∷ MutSlice (named 2) κ₂ R ∷ MutRef (named 3) κ₃ S ∷ u64 ∷ []) a at) ∷ []) ∵

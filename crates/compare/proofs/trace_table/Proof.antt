@@ -12,7 +12,7 @@ use mir.Syntax.{Ty, Width, tyUnit, named, erased, imm, mut, w8, w16, w32, w64, t
 use mir.Table.{spell}
 use mir.Val.{Val, WT, hasTy, vint}
 use base.Logic.{SProp, ent, sep, emp, via, fst∗, id⊢}
-use base.Fml.{Lft, GName, Share, ftrue, fat, froom, fdies, flft}
+use base.Fml.{Lft, GName, Share, ftrue, fat, froom, flft}
 use prog.Memory.{Memory}
 use prog.Routine.{Routine}
 use prog.Wp.{Heap, Env, Calls, Loops, Wp, atReturn, WpFn, Tables}
@@ -61,6 +61,7 @@ use Rattle.columns.proofs.Laws.{length-rowsIn}
 use Rattle.demands.specs.Calls.{lent, Traces}
 use Rattle.compare.specs.Calls.{TracesTable}
 use Rattle.compare.proofs.Lent.{big-lit, boxes, unboxes, row-array, lend-row, row-back, share-row, unshare-row}
+use Rattle.compare.proofs.Frames.{has-each, room-each, dies-each}
 use Rattle.compare.proofs.Callees.{R, S, typed-run, Table, Enough, One, Store}
 use Rattle.compare.proofs.Tabling.{cuts, glues, share-local, blank-value, blank-value-is, blanks, blanks-are, blanks-long, room-table, typed-row, typed-table, tabled, rest, table-fits, room-lent, table-long, Least, to-least, goes-least, least-of}
 use Rattle.compare.proofs.rows_lent as least′
@@ -127,6 +128,13 @@ module _ {M : Type 1} (𝓤 : URA M) (H : Heap 𝓤) (A : Atoms 𝓤) (W : Given
 
   abbrev κs : Lfts 7
   κs = (κ₀, (κ₁, (κ₂, (κ₃, (κ₄, (κ₅, (κ₆, tt)))))))
+
+  -- what is passed
+  abbrev passed : List Val
+  passed =
+      vint w8 ls ∷ sliceVal (x₂ .ptr) (length (x₂ .now)) ∷ vint w8 rs ∷ sliceVal (x₄ .ptr) (length (x₄ .now)) ∷ vint w64 m ∷
+      sliceVal (x₆ .ptr) (length (x₆ .now)) ∷ sliceVal (x₇ .ptr) (length (x₇ .now)) ∷ sliceVal (x₈ .ptr) (length (x₈ .now)) ∷
+      sliceVal (x₉ .ptr) (length (x₉ .now)) ∷ U′.lowered h ∷ sliceVal (x₁₁ .ptr) (length (x₁₁ .now)) ∷ []
 
   abbrev at : Vals table.signature κs
   at = (vint w8 ls ∷ [], (slice-vals x₂, (vint w8 rs ∷ [], (slice-vals x₄, (vint w64 m ∷ [], (slice-vals x₆, (slice-vals x₇, (slice-vals x₈, (slice-vals x₉, (U′.lowered h ∷ [], (slice-vals x₁₁, tt)))))))))))
@@ -216,39 +224,42 @@ module _ {M : Type 1} (𝓤 : URA M) (H : Heap 𝓤) (A : Atoms 𝓤) (W : Given
     abbrev pₒ : Ty
     pₒ = sliceTy (tyRef (named 6) mut (tyInt w8))
 
+    -- the locals: the result; the parameters (`Args`); what the body names (`Inner`); the temporaries (`Temps`)
+    abbrev Temps : Env 𝓤 H
+    Temps =
+        (spell Mir.table (pointee (R .written)), l₁₅) ∷ (spell Mir.table (tyInt w64), l₁₆) ∷ (spell Mir.table (tyInt w64), l₁₇) ∷
+        (spell Mir.table (tyInt w64), l₁₈) ∷ (spell Mir.table (tyInt w64), l₁₉) ∷ (spell Mir.table tyUnit, l₂₀) ∷
+        (spell Mir.table (tyRef erased mut (tyArray (pointee (R .written)) N)), l₂₁) ∷
+        (spell Mir.table (sliceTy (tyRef erased mut (pointee (R .written)))), l₂₂) ∷
+        (spell Mir.table (tyRef erased imm (tyArray (pointee (R .written)) N)), l₂₃) ∷
+        (spell Mir.table (sliceTy (tyRef erased imm (pointee (R .written)))), l₂₄) ∷
+        (spell Mir.table (tyRef erased imm (pointee (S .written))), l₂₅) ∷ (spell Mir.table (tyRef erased mut (tyInt w8)), l₂₆) ∷
+        (spell Mir.table (sliceTy (tyRef erased mut (tyInt w8))), l₂₇) ∷ []
+
+    abbrev Inner : Env 𝓤 H
+    Inner =
+        (spell Mir.table (pointee (S .written)), l₁₂) ∷ (spell Mir.table (tyArray (pointee (R .written)) N), l₁₃) ∷
+        (spell Mir.table (tyInt w64), l₁₄) ∷ Temps
+
+    abbrev Args : Env 𝓤 H → Env 𝓤 H
+    Args e =
+        (spell Mir.table (tyInt w8), l₁) ∷ (spell Mir.table (p 0 w32), l₂) ∷ (spell Mir.table (tyInt w8), l₃) ∷ (spell Mir.table (p 1 w32), l₄) ∷
+        (spell Mir.table (tyInt w64), l₅) ∷ (spell Mir.table (p 2 w8), l₆) ∷ (spell Mir.table (p 3 w64), l₇) ∷ (spell Mir.table (p 4 w16), l₈) ∷
+        (spell Mir.table (p 5 w16), l₉) ∷ (spell Mir.table (pointee (S .written)), l₁₀) ∷ (spell Mir.table pₒ, l₁₁) ∷ e
+
     abbrev En : Env 𝓤 H
-    En = (spell Mir.table (pointee (E .written)), l₀) ∷ (spell Mir.table (tyInt w8), l₁) ∷ (spell Mir.table (p 0 w32), l₂) ∷ (spell Mir.table (tyInt w8), l₃) ∷ (spell Mir.table (p 1 w32), l₄)
-        ∷ (spell Mir.table (tyInt w64), l₅) ∷ (spell Mir.table (p 2 w8), l₆) ∷ (spell Mir.table (p 3 w64), l₇) ∷ (spell Mir.table (p 4 w16), l₈) ∷ (spell Mir.table (p 5 w16), l₉)
-        ∷ (spell Mir.table (pointee (S .written)), l₁₀) ∷ (spell Mir.table pₒ, l₁₁) ∷ (spell Mir.table (pointee (S .written)), l₁₂) ∷ (spell Mir.table (tyArray (pointee (R .written)) N), l₁₃)
-        ∷ (spell Mir.table (tyInt w64), l₁₄) ∷ (spell Mir.table (pointee (R .written)), l₁₅) ∷ (spell Mir.table (tyInt w64), l₁₆) ∷ (spell Mir.table (tyInt w64), l₁₇) ∷ (spell Mir.table (tyInt w64), l₁₈)
-        ∷ (spell Mir.table (tyInt w64), l₁₉) ∷ (spell Mir.table tyUnit, l₂₀) ∷ (spell Mir.table (tyRef erased mut (tyArray (pointee (R .written)) N)), l₂₁)
-        ∷ (spell Mir.table (sliceTy (tyRef erased mut (pointee (R .written)))), l₂₂) ∷ (spell Mir.table (tyRef erased imm (tyArray (pointee (R .written)) N)), l₂₃)
-        ∷ (spell Mir.table (sliceTy (tyRef erased imm (pointee (R .written)))), l₂₄) ∷ (spell Mir.table (tyRef erased imm (pointee (S .written))), l₂₅) ∷ (spell Mir.table (tyRef erased mut (tyInt w8)), l₂₆)
-        ∷ (spell Mir.table (sliceTy (tyRef erased mut (tyInt w8))), l₂₇) ∷ []
+    En = (spell Mir.table (pointee (E .written)), l₀) ∷ Args Inner
+
+    -- the parameters' locals, with what was passed
+    abbrev Params : List (Item 𝓤) → List (Item 𝓤)
+    Params Γ = has-each (Args []) passed Γ
 
     -- between two stages: the table; the parameters' locals; the record and the number of rows; the answer, or room for it; room for the other locals; the tokens; and that each local dies
     abbrev At : ℕ → List Row → Item 𝓤 → List (Item 𝓤)
-    At n rs′ ret = ‵ (row R fullShare rs′ l₁₃ 0) ∷ ‵ (fat fullShare (spell Mir.table (tyInt w8)) l₁ 0 (vint w8 ls)) ∷ ‵ (fat fullShare (spell Mir.table (p 0 w32)) l₂ 0 (sliceVal (x₂ .ptr) (length (x₂ .now))))
-        ∷ ‵ (fat fullShare (spell Mir.table (tyInt w8)) l₃ 0 (vint w8 rs)) ∷ ‵ (fat fullShare (spell Mir.table (p 1 w32)) l₄ 0 (sliceVal (x₄ .ptr) (length (x₄ .now))))
-        ∷ ‵ (fat fullShare (spell Mir.table (tyInt w64)) l₅ 0 (vint w64 m)) ∷ ‵ (fat fullShare (spell Mir.table (p 2 w8)) l₆ 0 (sliceVal (x₆ .ptr) (length (x₆ .now))))
-        ∷ ‵ (fat fullShare (spell Mir.table (p 3 w64)) l₇ 0 (sliceVal (x₇ .ptr) (length (x₇ .now)))) ∷ ‵ (fat fullShare (spell Mir.table (p 4 w16)) l₈ 0 (sliceVal (x₈ .ptr) (length (x₈ .now))))
-        ∷ ‵ (fat fullShare (spell Mir.table (p 5 w16)) l₉ 0 (sliceVal (x₉ .ptr) (length (x₉ .now)))) ∷ ‵ (fat fullShare (spell Mir.table (pointee (S .written))) l₁₀ 0 (U′.lowered h))
-        ∷ ‵ (fat fullShare (spell Mir.table pₒ) l₁₁ 0 (sliceVal (x₁₁ .ptr) (length (x₁₁ .now)))) ∷ ‵ (fat fullShare (spell Mir.table (pointee (S .written))) l₁₂ 0 (U′.lowered h))
-        ∷ ‵ (fat fullShare (spell Mir.table (tyInt w64)) l₁₄ 0 (vint w64 n)) ∷ ret ∷ ‵ (froom (spell Mir.table (pointee (R .written))) l₁₅ 0) ∷ ‵ (froom (spell Mir.table (tyInt w64)) l₁₆ 0)
-        ∷ ‵ (froom (spell Mir.table (tyInt w64)) l₁₇ 0) ∷ ‵ (froom (spell Mir.table (tyInt w64)) l₁₈ 0) ∷ ‵ (froom (spell Mir.table (tyInt w64)) l₁₉ 0) ∷ ‵ (froom (spell Mir.table tyUnit) l₂₀ 0)
-        ∷ ‵ (froom (spell Mir.table (tyRef erased mut (tyArray (pointee (R .written)) N))) l₂₁ 0) ∷ ‵ (froom (spell Mir.table (sliceTy (tyRef erased mut (pointee (R .written))))) l₂₂ 0)
-        ∷ ‵ (froom (spell Mir.table (tyRef erased imm (tyArray (pointee (R .written)) N))) l₂₃ 0) ∷ ‵ (froom (spell Mir.table (sliceTy (tyRef erased imm (pointee (R .written))))) l₂₄ 0)
-        ∷ ‵ (froom (spell Mir.table (tyRef erased imm (pointee (S .written)))) l₂₅ 0) ∷ ‵ (froom (spell Mir.table (tyRef erased mut (tyInt w8))) l₂₆ 0)
-        ∷ ‵ (froom (spell Mir.table (sliceTy (tyRef erased mut (tyInt w8)))) l₂₇ 0) ∷ ‵ (flft κ₀ q₀) ∷ ‵ (flft κ₁ q₁) ∷ ‵ (flft κ₂ q₂) ∷ ‵ (flft κ₃ q₃) ∷ ‵ (flft κ₄ q₄) ∷ ‵ (flft κ₅ q₅) ∷ ‵ (flft κ₆ q₆)
-        ∷ ‵ (fdies (spell Mir.table (pointee (E .written))) l₀) ∷ ‵ (fdies (spell Mir.table (tyInt w8)) l₁) ∷ ‵ (fdies (spell Mir.table (p 0 w32)) l₂) ∷ ‵ (fdies (spell Mir.table (tyInt w8)) l₃)
-        ∷ ‵ (fdies (spell Mir.table (p 1 w32)) l₄) ∷ ‵ (fdies (spell Mir.table (tyInt w64)) l₅) ∷ ‵ (fdies (spell Mir.table (p 2 w8)) l₆) ∷ ‵ (fdies (spell Mir.table (p 3 w64)) l₇)
-        ∷ ‵ (fdies (spell Mir.table (p 4 w16)) l₈) ∷ ‵ (fdies (spell Mir.table (p 5 w16)) l₉) ∷ ‵ (fdies (spell Mir.table (pointee (S .written))) l₁₀) ∷ ‵ (fdies (spell Mir.table pₒ) l₁₁)
-        ∷ ‵ (fdies (spell Mir.table (pointee (S .written))) l₁₂) ∷ ‵ (fdies (spell Mir.table (tyArray (pointee (R .written)) N)) l₁₃) ∷ ‵ (fdies (spell Mir.table (tyInt w64)) l₁₄)
-        ∷ ‵ (fdies (spell Mir.table (pointee (R .written))) l₁₅) ∷ ‵ (fdies (spell Mir.table (tyInt w64)) l₁₆) ∷ ‵ (fdies (spell Mir.table (tyInt w64)) l₁₇) ∷ ‵ (fdies (spell Mir.table (tyInt w64)) l₁₈)
-        ∷ ‵ (fdies (spell Mir.table (tyInt w64)) l₁₉) ∷ ‵ (fdies (spell Mir.table tyUnit) l₂₀) ∷ ‵ (fdies (spell Mir.table (tyRef erased mut (tyArray (pointee (R .written)) N))) l₂₁)
-        ∷ ‵ (fdies (spell Mir.table (sliceTy (tyRef erased mut (pointee (R .written))))) l₂₂) ∷ ‵ (fdies (spell Mir.table (tyRef erased imm (tyArray (pointee (R .written)) N))) l₂₃)
-        ∷ ‵ (fdies (spell Mir.table (sliceTy (tyRef erased imm (pointee (R .written))))) l₂₄) ∷ ‵ (fdies (spell Mir.table (tyRef erased imm (pointee (S .written)))) l₂₅)
-        ∷ ‵ (fdies (spell Mir.table (tyRef erased mut (tyInt w8))) l₂₆) ∷ ‵ (fdies (spell Mir.table (sliceTy (tyRef erased mut (tyInt w8)))) l₂₇) ∷ []
+    At n rs′ ret =
+        ‵ (row R fullShare rs′ l₁₃ 0) ∷ Params (‵ (fat fullShare (spell Mir.table (pointee (S .written))) l₁₂ 0 (U′.lowered h)) ∷
+        ‵ (fat fullShare (spell Mir.table (tyInt w64)) l₁₄ 0 (vint w64 n)) ∷ ret ∷ room-each Temps (‵ (flft κ₀ q₀) ∷ ‵ (flft κ₁ q₁) ∷ ‵ (flft κ₂ q₂) ∷
+        ‵ (flft κ₃ q₃) ∷ ‵ (flft κ₄ q₄) ∷ ‵ (flft κ₅ q₅) ∷ ‵ (flft κ₆ q₆) ∷ dies-each En []))
 
     -- what is owned of the columns, and of the two bags and the buffer
     abbrev Bags : List (Item 𝓤) → List (Item 𝓤)
@@ -328,19 +339,9 @@ module _ {M : Type 1} (𝓤 : URA M) (H : Heap 𝓤) (A : Atoms 𝓤) (W : Given
 
     -- the parameters' locals, room for the others, what the parameters own, and the tokens
     abbrev Start : List (Item 𝓤)
-    Start = ‵ (fat fullShare (spell Mir.table (tyInt w8)) l₁ 0 (vint w8 ls)) ∷ ‵ (fat fullShare (spell Mir.table (p 0 w32)) l₂ 0 (sliceVal (x₂ .ptr) (length (x₂ .now))))
-        ∷ ‵ (fat fullShare (spell Mir.table (tyInt w8)) l₃ 0 (vint w8 rs)) ∷ ‵ (fat fullShare (spell Mir.table (p 1 w32)) l₄ 0 (sliceVal (x₄ .ptr) (length (x₄ .now))))
-        ∷ ‵ (fat fullShare (spell Mir.table (tyInt w64)) l₅ 0 (vint w64 m)) ∷ ‵ (fat fullShare (spell Mir.table (p 2 w8)) l₆ 0 (sliceVal (x₆ .ptr) (length (x₆ .now))))
-        ∷ ‵ (fat fullShare (spell Mir.table (p 3 w64)) l₇ 0 (sliceVal (x₇ .ptr) (length (x₇ .now)))) ∷ ‵ (fat fullShare (spell Mir.table (p 4 w16)) l₈ 0 (sliceVal (x₈ .ptr) (length (x₈ .now))))
-        ∷ ‵ (fat fullShare (spell Mir.table (p 5 w16)) l₉ 0 (sliceVal (x₉ .ptr) (length (x₉ .now)))) ∷ ‵ (fat fullShare (spell Mir.table (pointee (S .written))) l₁₀ 0 (U′.lowered h))
-        ∷ ‵ (fat fullShare (spell Mir.table pₒ) l₁₁ 0 (sliceVal (x₁₁ .ptr) (length (x₁₁ .now)))) ∷ ‵ (froom (spell Mir.table (pointee (E .written))) l₀ 0) ∷ ‵ (froom (spell Mir.table (pointee (S .written))) l₁₂ 0)
-        ∷ ‵ (froom (spell Mir.table (tyArray (pointee (R .written)) N)) l₁₃ 0) ∷ ‵ (froom (spell Mir.table (tyInt w64)) l₁₄ 0) ∷ ‵ (froom (spell Mir.table (pointee (R .written))) l₁₅ 0)
-        ∷ ‵ (froom (spell Mir.table (tyInt w64)) l₁₆ 0) ∷ ‵ (froom (spell Mir.table (tyInt w64)) l₁₇ 0) ∷ ‵ (froom (spell Mir.table (tyInt w64)) l₁₈ 0) ∷ ‵ (froom (spell Mir.table (tyInt w64)) l₁₉ 0)
-        ∷ ‵ (froom (spell Mir.table tyUnit) l₂₀ 0) ∷ ‵ (froom (spell Mir.table (tyRef erased mut (tyArray (pointee (R .written)) N))) l₂₁ 0)
-        ∷ ‵ (froom (spell Mir.table (sliceTy (tyRef erased mut (pointee (R .written))))) l₂₂ 0) ∷ ‵ (froom (spell Mir.table (tyRef erased imm (tyArray (pointee (R .written)) N))) l₂₃ 0)
-        ∷ ‵ (froom (spell Mir.table (sliceTy (tyRef erased imm (pointee (R .written))))) l₂₄ 0) ∷ ‵ (froom (spell Mir.table (tyRef erased imm (pointee (S .written)))) l₂₅ 0)
-        ∷ ‵ (froom (spell Mir.table (tyRef erased mut (tyInt w8))) l₂₆ 0) ∷ ‵ (froom (spell Mir.table (sliceTy (tyRef erased mut (tyInt w8)))) l₂₇ 0)
-        ∷ Owned (‵ (flft κ₀ q₀) ∷ ‵ (flft κ₁ q₁) ∷ ‵ (flft κ₂ q₂) ∷ ‵ (flft κ₃ q₃) ∷ ‵ (flft κ₄ q₄) ∷ ‵ (flft κ₅ q₅) ∷ ‵ (flft κ₆ q₆) ∷ ‵ (fdies (spell Mir.table (pointee (E .written))) l₀) ∷ ‵ (fdies (spell Mir.table (tyInt w8)) l₁) ∷ ‵ (fdies (spell Mir.table (p 0 w32)) l₂) ∷ ‵ (fdies (spell Mir.table (tyInt w8)) l₃) ∷ ‵ (fdies (spell Mir.table (p 1 w32)) l₄) ∷ ‵ (fdies (spell Mir.table (tyInt w64)) l₅) ∷ ‵ (fdies (spell Mir.table (p 2 w8)) l₆) ∷ ‵ (fdies (spell Mir.table (p 3 w64)) l₇) ∷ ‵ (fdies (spell Mir.table (p 4 w16)) l₈) ∷ ‵ (fdies (spell Mir.table (p 5 w16)) l₉) ∷ ‵ (fdies (spell Mir.table (pointee (S .written))) l₁₀) ∷ ‵ (fdies (spell Mir.table pₒ) l₁₁) ∷ ‵ (fdies (spell Mir.table (pointee (S .written))) l₁₂) ∷ ‵ (fdies (spell Mir.table (tyArray (pointee (R .written)) N)) l₁₃) ∷ ‵ (fdies (spell Mir.table (tyInt w64)) l₁₄) ∷ ‵ (fdies (spell Mir.table (pointee (R .written))) l₁₅) ∷ ‵ (fdies (spell Mir.table (tyInt w64)) l₁₆) ∷ ‵ (fdies (spell Mir.table (tyInt w64)) l₁₇) ∷ ‵ (fdies (spell Mir.table (tyInt w64)) l₁₈) ∷ ‵ (fdies (spell Mir.table (tyInt w64)) l₁₉) ∷ ‵ (fdies (spell Mir.table tyUnit) l₂₀) ∷ ‵ (fdies (spell Mir.table (tyRef erased mut (tyArray (pointee (R .written)) N))) l₂₁) ∷ ‵ (fdies (spell Mir.table (sliceTy (tyRef erased mut (pointee (R .written))))) l₂₂) ∷ ‵ (fdies (spell Mir.table (tyRef erased imm (tyArray (pointee (R .written)) N))) l₂₃) ∷ ‵ (fdies (spell Mir.table (sliceTy (tyRef erased imm (pointee (R .written))))) l₂₄) ∷ ‵ (fdies (spell Mir.table (tyRef erased imm (pointee (S .written)))) l₂₅) ∷ ‵ (fdies (spell Mir.table (tyRef erased mut (tyInt w8))) l₂₆) ∷ ‵ (fdies (spell Mir.table (sliceTy (tyRef erased mut (tyInt w8)))) l₂₇) ∷ [])
+    Start =
+        Params (‵ (froom (spell Mir.table (pointee (E .written))) l₀ 0) ∷ room-each Inner (Owned (‵ (flft κ₀ q₀) ∷ ‵ (flft κ₁ q₁) ∷ ‵ (flft κ₂ q₂) ∷
+        ‵ (flft κ₃ q₃) ∷ ‵ (flft κ₄ q₄) ∷ ‵ (flft κ₅ q₅) ∷ ‵ (flft κ₆ q₆) ∷ dies-each En [])))
 
     from-start : ent 𝓤 (⋆ 𝓤 H A Start) (Wp 𝓤 H C Λ En Mir.t-1 (atReturn 𝓤 H En Post))
     from-start =
@@ -369,7 +370,7 @@ module _ {M : Type 1} (𝓤 : URA M) (H : Heap 𝓤) (A : Atoms 𝓤) (W : Given
   module _ (C : Calls 𝓤 H) (Λ : Loops 𝓤 H) (fm : FmC 𝓤 H (W .laws) C) (known-least : Triple 𝓤 (C #compare·rows-lent) (Least 𝓤 H A at-mem run)) (known-store : Triple 𝓤 (C #compare·store) (Store 𝓤 H A at-mem run))
       (known-call : Triple 𝓤 (C #compare·call) (Call 𝓤 H A at-mem run)) where
     walk : ent 𝓤 (onEntry 𝓤 H A table.signature κs (q₀, (q₁, (q₂, (q₃, (q₄, (q₅, (q₆, tt))))))) a at)
-        (WpFn 𝓤 H C Λ code.function (vint w8 ls ∷ sliceVal (x₂ .ptr) (length (x₂ .now)) ∷ vint w8 rs ∷ sliceVal (x₄ .ptr) (length (x₄ .now)) ∷ vint w64 m ∷ sliceVal (x₆ .ptr) (length (x₆ .now)) ∷ sliceVal (x₇ .ptr) (length (x₇ .now)) ∷ sliceVal (x₈ .ptr) (length (x₈ .now)) ∷ sliceVal (x₉ .ptr) (length (x₉ .now)) ∷ U′.lowered h ∷ sliceVal (x₁₁ .ptr) (length (x₁₁ .now)) ∷ []) Post)
+        (WpFn 𝓤 H C Λ code.function passed Post)
     walk =
         qed W ((‵ (flft κ₀ q₀) ⊛ ‵ (flft κ₁ q₁) ⊛ ‵ (flft κ₂ q₂) ⊛ ‵ (flft κ₃ q₃) ⊛ ‵ (flft κ₄ q₄) ⊛ ‵ (flft κ₅ q₅) ⊛ ‵ (flft κ₆ q₆) ⊛ ‵ ftrue)
         ∷ ‵ (owns (u8 ∷ ShrSlice (named 0) κ₀ u32 ∷ u8 ∷ ShrSlice (named 1) κ₁ u32 ∷ usize ∷ ShrSlice (named 2) κ₂ u8 ∷ ShrSlice (named 3) κ₃ u64 ∷ ShrSlice (named 4) κ₄ u16 ∷ ShrSlice (named 5) κ₅ u16 ∷ S ∷ MutSlice (named 6) κ₆ u8 ∷ []) a at) ∷ []) ∵
