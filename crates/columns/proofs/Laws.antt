@@ -5,6 +5,7 @@ use mathlib.Core.Bool.{Bool, true, false, cond, _&&_, _||_, or-assoc, or-false}
 use mathlib.Core.List.{List, [], _∷_, _++_, map, append-assoc, append-nil}
 use mathlib.Core.Logic.{⊎-elim}
 use native.Mathlib.Nat.{eq-or-lt-of-le, lt-of-lt-of-le}
+use native.Mathlib.Numerals.{add-one}
 use native.Mathlib.Omega.{arith}
 use lib.Pow.{pow-mono}
 use lib.Bits.{bitAnd}
@@ -111,6 +112,23 @@ rows-put rows c (suc n) h =
         (getD-map (λ (w : Row). w .parent) rows (drop (length (map (λ (w : Row). w .parent) rows)) (c .parents)) n h (row 0 0 0 0) i)
         (getD-map (λ (w : Row). w .letter) rows (drop (length (map (λ (w : Row). w .letter) rows)) (c .letters)) n h (row 0 0 0 0) i)
 
+-- ---- the lengths: columns that are lent are left as long as they were
+pub record AsLong (before after : Columns) : Type 0 where
+  pub places : length (after .places) ≡ length (before .places)
+  pub sets : length (after .sets) ≡ length (before .sets)
+  pub parents : length (after .parents) ≡ length (before .parents)
+  pub letters : length (after .letters) ≡ length (before .letters)
+
+pub as-long : (c : Columns) → AsLong c c
+as-long c = record { places = refl; sets = refl; parents = refl; letters = refl }
+
+-- still so after a call that says of each column that it kept its length
+pub as-long-then : (c c′ c″ : Columns) → AsLong c c′
+    → length (c″ .places) ≡ length (c′ .places) → length (c″ .sets) ≡ length (c′ .sets)
+    → length (c″ .parents) ≡ length (c′ .parents) → length (c″ .letters) ≡ length (c′ .letters) → AsLong c c″
+as-long-then c c′ c″ h p s q l =
+    record { places = p ∙ h .places; sets = s ∙ h .sets; parents = q ∙ h .parents; letters = l ∙ h .letters }
+
 -- ---- entering
 known-snoc : (c : Row) (ws : List Row) (w : Row) → known c (ws ++ (w ∷ [])) ≡ (known c ws || (eqb (w .place) (c .place) && eqb (w .set) (c .set)))
 unfolding known
@@ -194,12 +212,12 @@ module _ (c c′ c″ : Columns) (room used : ℕ) (xs ys : List Row) (r r′ : 
   rows-first e =
       ap₂ rowsIn (e .columns) (e .used) ∙ rows-put (first .rows) c (length (first .rows)) (omega arith) ∙ take-length (first .rows)
 
-  pub fits-first : Enters c c′ first r → Fits c′ (r .used) room
+  fits-first : Enters c c′ first r → Fits c′ (r .used) room
   fits-first e =
       let g = all-grows room xs (entering (rowsIn c used)) in
       rw (e .columns, e .used) (fits-put c used room f (first .rows) (g .within (rw (length-rowsIn c used) (f .used))))
 
-  pub enters-then : Enters c c′ first r → r .full ≡ false → Enters c′ c″ (enterAll room ys (entering (rowsIn c′ (r .used)))) r′
+  enters-then : Enters c c′ first r → r .full ≡ false → Enters c′ c″ (enterAll room ys (entering (rowsIn c′ (r .used)))) r′
       → Enters c c″ (enterAll room (xs ++ ys) (entering (rowsIn c used))) r′
   enters-then e h g =
       record {
@@ -219,7 +237,7 @@ module _ (c c′ c″ : Columns) (room used : ℕ) (xs ys : List Row) (r r′ : 
       same : enterAll room ys (entering (rowsIn c′ (r .used))) ≡ whole
       same = ap (enterAll room ys) start ∙ sym (enter-append room xs ys (entering (rowsIn c used)))
 
-  pub enters-stop : Enters c c′ first r → r .full ≡ true → Enters c c′ (enterAll room (xs ++ ys) (entering (rowsIn c used))) r
+  enters-stop : Enters c c′ first r → r .full ≡ true → Enters c c′ (enterAll room (xs ++ ys) (entering (rowsIn c used))) r
   enters-stop e h =
       rw (enter-append room xs ys (entering (rowsIn c used)), enter-full room ys first (sym (e .full) ∙ h)) e
 
@@ -269,27 +287,54 @@ module _ (c c′ : Columns) (room : ℕ) (g : Row) (e : Entered) (r : Entering) 
   unfolding enterAll
   enters-if-not h p = subst (λ (x : Bool). Enters c c′ (enterAll room (cond x (g ∷ []) []) e) r) (sym h) p
 
--- the first k parts of n, and the rest
-parts : (part : ℕ → List Row) (all : ℕ → List Row) → ((n : ℕ) → all (suc n) ≡ all n ++ part n) → (k n : ℕ) → k ≤ n → (ys : List Row) × (all n ≡ all k ++ ys)
-parts part all more k n h = go n (n - k) (omega arith)
-  where
-    go : (n d : ℕ) → n ≡ k + d → (ys : List Row) × (all n ≡ all k ++ ys)
-    go n zero e = ([], ap all (let z : n ≡ k = omega arith in z) ∙ sym (append-nil (all k)))
-    go zero (suc d) e = absurd (omega arith)
-    go (suc n) (suc d) e =
-        let (ys, q) = go n d (omega arith) in
-        (ys ++ part n, more n ∙ ap (λ (l : List Row). l ++ part n) q ∙ append-assoc (all k) ys (part n))
+-- ---- goals entered part after part, as the loops over members and letters do
+pub record Parts : Type 0 where
+  pub lent : Columns
+  pub used : ℕ
+  pub room : ℕ
+  pub fits : Fits lent used room
+  -- the goals of the first n parts, and those of part n
+  pub goals : ℕ → List Row
+  pub part : ℕ → List Row
+  pub next : (n : ℕ) → goals (suc n) ≡ goals n ++ part n
 
-pub member-parts : (m : ℕ) (f : ℕ → Row) (k n : ℕ) → k ≤ n → (ys : List Row) × (eachMember m f n ≡ eachMember m f k ++ ys)
+-- the goals of the first n parts stand in the columns
+abbrev pub Stand : Parts → Columns → ℕ → Entering → Type 0
+Stand p c n r = Enters (p .lent) c (enterAll (p .room) (p .goals n) (entering (rowsIn (p .lent) (p .used)))) r
+
+module _ (p : Parts) (c : Columns) where
+  pub stand-fits : (n : ℕ) (r : Entering) → Stand p c n r → Fits c (r .used) (p .room)
+  stand-fits n r e = fits-first (p .lent) c c (p .room) (p .used) (p .goals n) [] r r (p .fits) e
+
+  pub stand-next : (c′ : Columns) (n u : ℕ) (r : Entering) → Stand p c n (entered u false) → Enters c c′ (enterAll (p .room) (p .part n) (entering (rowsIn c u))) r → Stand p c′ (suc n) r
+  stand-next c′ n u r e g =
+      rw (p .next n) (enters-then (p .lent) c c′ (p .room) (p .used) (p .goals n) (p .part n) (entered u false) r (p .fits) e refl g)
+
+  -- the next turn begins with what a turn that found room left
+  pub stand-again : (n : ℕ) (r : Entering) → Stand p c (suc n) r → r .full ≡ false → Stand p c (n + 1) (entered (r .used) false)
+  stand-again n r e h = rw add-one (record { columns = e .columns; used = e .used; full = sym h ∙ e .full })
+
+  -- once a goal finds no room, the parts that are left change nothing
+  pub stand-stop : (k n : ℕ) (r : Entering) → k ≤ n → Stand p c k r → r .full ≡ true → Stand p c n r
+  stand-stop k n r h e full =
+      let (ys, q) = rest n (n - k) (omega arith) in
+      rw q (enters-stop (p .lent) c c (p .room) (p .used) (p .goals k) ys r r (p .fits) e full)
+    where
+      rest : (n d : ℕ) → n ≡ k + d → (ys : List Row) × (p .goals n ≡ p .goals k ++ ys)
+      rest n zero e = ([], ap (p .goals) (let z : n ≡ k = omega arith in z) ∙ sym (append-nil (p .goals k)))
+      rest zero (suc d) e = absurd (omega arith)
+      rest (suc n) (suc d) e =
+          let (ys, q) = rest n d (omega arith) in
+          (ys ++ p .part n, p .next n ∙ ap (λ (l : List Row). l ++ p .part n) q ∙ append-assoc (p .goals k) ys (p .part n))
+
+-- the members and the letters come one after another
+pub member-next : (m : ℕ) (f : ℕ → Row) (n : ℕ) → eachMember m f (suc n) ≡ eachMember m f n ++ cond (has m n) (f n ∷ []) []
 unfolding eachMember
-member-parts m f = parts (λ j. cond (has m j) (f j ∷ []) []) (eachMember m f) (λ n. refl)
+member-next m f n = refl
 
-pub letter-parts : (f : ℕ → List Row) (k n : ℕ) → k ≤ n → (ys : List Row) × (eachLetter f n ≡ eachLetter f k ++ ys)
+pub letter-next : (f : ℕ → List Row) (n : ℕ) → eachLetter f (suc n) ≡ eachLetter f n ++ f n
 unfolding eachLetter
-letter-parts f = parts f (eachLetter f) (λ n. refl)
-
-pub enters-open : (c c′ : Columns) (e : Entered) (r : Entering) → Enters c c′ e r → r .full ≡ false → Enters c c′ e (entered (r .used) false)
-enters-open c c′ e r p h = record { columns = p .columns; used = p .used; full = sym h ∙ p .full }
+letter-next f n = refl
 
 -- the goals of a letter, with the matching sets as they were worked out
 pub lettered-by : (c c′ : Columns) (room follow spread i x a b : ℕ) (ls : Letters) (e : Entered) (r : Entering)

@@ -1,26 +1,23 @@
 -- `columns::enter_members`. The loop keeps: the goals of the members below j are entered; a full one ends it.
 use Prim.Native.Nat.{suc, ℕ, _≤_, _-_}
-use mathlib.Core.Path.{_≡_, refl, subst, _∙_}
-use mathlib.Core.Bool.{false}
-use mathlib.Core.List.{[]}
-use native.Mathlib.Numerals.{add-one}
+use mathlib.Core.Path.{subst}
+use mathlib.Core.Bool.{false, cond}
+use mathlib.Core.List.{[], _∷_}
 use native.Mathlib.Omega.{arith}
-use lib.ListN.{length}
 use borrow.Author.Needs.{needs}
+use Rattle.bits.specs.Bit.{has}
+use Rattle.goals.specs.declared.Row.{Row}
 use Rattle.goals.specs.Goals.{row, eachMember, enterAll}
-use Rattle.columns.specs.Calls.{columns, rowsIn}
+use Rattle.columns.specs.Calls.{Columns, columns, rowsIn}
 use Rattle.columns.specs.Core.{Enters, entering}
-use Rattle.columns.proofs.Laws.{enters-open, entered, enters-none, fits-first, enters-then, enters-stop, member-parts}
+use Rattle.columns.proofs.Laws.{AsLong, as-long, as-long-then, entered, enters-none, Parts, Stand, stand-fits, stand-next, stand-again, stand-stop, member-next}
 use Rattle.columns.proofs.enter_members.Statement.{statement}
 use Rattle.columns.proofs.enter_members.Tie as tie
 
 abbrev Inv-loop : tie.InvT-loop
 Inv-loop places₀ sets₀ parents₀ letters₀ used room members goal u₀ j₀ places sets parents letters u j =
     (j ≤ 64)
-    × (length places ≡ length places₀)
-    × (length sets ≡ length sets₀)
-    × (length parents ≡ length parents₀)
-    × (length letters ≡ length letters₀)
+    × AsLong (columns places₀ sets₀ parents₀ letters₀) (columns places sets parents letters)
     × Enters (columns places₀ sets₀ parents₀ letters₀) (columns places sets parents letters)
     (enterAll room (eachMember members (λ k. row k (goal .set) (goal .parent) (goal .letter)) j) (entering (rowsIn (columns places₀ sets₀ parents₀ letters₀) used)))
     (entered u false)
@@ -28,94 +25,81 @@ Inv-loop places₀ sets₀ parents₀ letters₀ used room members goal u₀ j�
 abbrev μ-loop : tie.MeasureT-loop
 μ-loop places₀ sets₀ parents₀ letters₀ used room members goal u₀ j₀ places sets parents letters u j = 64 - j
 
+-- where the function began, and what it was lent, with a part for each place: its goal, if it is a member
+abbrev start : tie.At-loop Inv-loop μ-loop → tie.Start Inv-loop μ-loop
+start l = l .before .before .before .before .before
+
+abbrev parts : tie.Start Inv-loop μ-loop → Parts
+parts s =
+    let a = s .args in
+    let at : ℕ → Row = λ j. row j (a .goal .set) (a .goal .parent) (a .goal .letter) in
+    record {
+      lent = columns (a .places .now) (a .sets .now) (a .parents .now) (a .letters .now);
+      used = a .used;
+      room = a .room;
+      fits = s .pre;
+      goals = eachMember (a .members) at;
+      part = λ j. cond (has (a .members) j) (at j ∷ []) [];
+      next = member-next (a .members) at;
+    }
+
+-- where the turn began, seen from where `enter_if` answered, and the columns as they stood there and as it left them
+abbrev at-loop : tie.After-enter-if Inv-loop μ-loop → tie.At-loop Inv-loop μ-loop
+at-loop e = e .before .before .before .before .before .before
+
+abbrev standing : tie.At-loop Inv-loop μ-loop → Columns
+standing l = columns (l .loop .places) (l .loop .sets) (l .loop .parents) (l .loop .letters)
+
+abbrev left : tie.After-enter-if Inv-loop μ-loop → Columns
+left e = let z = e .enter-if .last in columns (z .0) (z .1 .0) (z .1 .1 .0) (z .1 .1 .1 .0)
+
 loop-holds : tie.Need-loop-holds Inv-loop μ-loop
 unfolding eachMember enterAll
 loop-holds c =
     let s = c .before .before .before .before in
-    let a = s .args in (
-      search needs,
-      refl,
-      refl,
-      refl,
-      refl,
-      enters-none (columns (a .places .now) (a .sets .now) (a .parents .now) (a .letters .now)) (a .used) (a .room) (s .pre) (a .goal),
-    )
+    (search needs, as-long (parts s .lent), enters-none (parts s .lent) (s .args .used) (s .args .room) (s .pre) (s .args .goal))
 
 enter-if-requires : tie.Need-enter-if-requires Inv-loop μ-loop
 enter-if-requires c κs =
     let l = c .before .before .before .before .before in
-    let s = l .before .before .before .before .before in
-    let a = s .args in
-    let v = l .loop .inv in
-    fits-first
-    (columns (a .places .now) (a .sets .now) (a .parents .now) (a .letters .now))
-    (columns (l .loop .places) (l .loop .sets) (l .loop .parents) (l .loop .letters))
-    (columns (l .loop .places) (l .loop .sets) (l .loop .parents) (l .loop .letters)) (a .room) (a .used)
-    (eachMember (a .members) (λ (k : ℕ). row k (a .goal .set) (a .goal .parent) (a .goal .letter)) (l .loop .j)) []
-    (entered (l .loop .u) false) (entered (l .loop .u) false) (s .pre) (v .5)
+    stand-fits (parts (start l)) (standing l) (l .loop .j) (entered (l .loop .u) false) (l .loop .inv .2)
 
 -- the goals of the members up to j stand in the columns
-more : (c : tie.After-slice-known8 Inv-loop μ-loop)
-    → let l = c .before .before .before .before .before .before .before .before .before .before .before .before .before .before in
-    let a = l .before .before .before .before .before .args in
-    let e = c .before .before .before .before .before .before .before .before .enter-if in
-    Enters (columns (a .places .now) (a .sets .now) (a .parents .now) (a .letters .now)) (columns (e .last .0) (e .last .1 .0) (e .last .1 .1 .0) (e .last .1 .1 .1 .0)) (enterAll (a .room) (eachMember (a .members) (λ (k : ℕ). row k (a .goal .set) (a .goal .parent) (a .goal .letter)) (suc (l .loop .j))) (entering (rowsIn (columns (a .places .now) (a .sets .now) (a .parents .now) (a .letters .now)) (a .used)))) (e .result)
-unfolding eachMember
-more c =
-    let l = c .before .before .before .before .before .before .before .before .before .before .before .before .before .before in
-    let s = l .before .before .before .before .before in
-    let a = s .args in
-    let e = c .before .before .before .before .before .before .before .before .enter-if in
-    enters-then (columns (a .places .now) (a .sets .now) (a .parents .now) (a .letters .now)) (columns (l .loop .places) (l .loop .sets) (l .loop .parents) (l .loop .letters)) (columns (e .last .0) (e .last .1 .0) (e .last .1 .1 .0) (e .last .1 .1 .1 .0)) (a .room) (a .used) (eachMember (a .members) (λ (k : ℕ). row k (a .goal .set) (a .goal .parent) (a .goal .letter)) (l .loop .j)) _ (entered (l .loop .u) false) (e .result) (s .pre) (l .loop .inv .5) refl (e .ensures)
+more : (e : tie.After-enter-if Inv-loop μ-loop) → let l = at-loop e in Stand (parts (start l)) (left e) (suc (l .loop .j)) (e .enter-if .result)
+more e =
+    let l = at-loop e in
+    stand-next (parts (start l)) (standing l) (left e) (l .loop .j) (l .loop .u) (e .enter-if .result) (l .loop .inv .2) (e .enter-if .ensures)
+
+-- and the columns are as long as they were
+kept-lengths : (e : tie.After-enter-if Inv-loop μ-loop) → AsLong (parts (start (at-loop e)) .lent) (left e)
+kept-lengths e =
+    let l = at-loop e in
+    let k = e .enter-if .kept in
+    as-long-then (parts (start l) .lent) (standing l) (left e) (l .loop .inv .1) (k .0) (k .1 .0) (k .1 .1 .0) (k .1 .1 .1 .0)
+
+-- where `enter_if` answered, seen from past what is known of the columns since
+abbrev answered : tie.After-slice-known8 Inv-loop μ-loop → tie.After-enter-if Inv-loop μ-loop
+answered c = c .before .before .before .before .before .before .before .before
 
 same-length : tie.Need-same-length Inv-loop μ-loop
-same-length c =
-    let l = c .before .before .before .before .before .before .before .before .before .before .before .before .before .before .before in
-    let s = l .before .before .before .before .before in
-    let a = s .args in
-    let v = l .loop .inv in
-    c .before .before .before .before .before .before .before .before .before .enter-if .kept .0 ∙ v .1
+same-length c = kept-lengths (answered (c .before)) .places
 
 same-length-2 : tie.Need-same-length-2 Inv-loop μ-loop
-same-length-2 c =
-    let l = c .before .before .before .before .before .before .before .before .before .before .before .before .before .before .before in
-    let s = l .before .before .before .before .before in
-    let a = s .args in
-    let v = l .loop .inv in
-    c .before .before .before .before .before .before .before .before .before .enter-if .kept .1 .0 ∙ v .2
+same-length-2 c = kept-lengths (answered (c .before)) .sets
 
 same-length-3 : tie.Need-same-length-3 Inv-loop μ-loop
-same-length-3 c =
-    let l = c .before .before .before .before .before .before .before .before .before .before .before .before .before .before .before in
-    let s = l .before .before .before .before .before in
-    let a = s .args in
-    let v = l .loop .inv in
-    c .before .before .before .before .before .before .before .before .before .enter-if .kept .1 .1 .0 ∙ v .3
+same-length-3 c = kept-lengths (answered (c .before)) .parents
 
 same-length-4 : tie.Need-same-length-4 Inv-loop μ-loop
-same-length-4 c =
-    let l = c .before .before .before .before .before .before .before .before .before .before .before .before .before .before .before in
-    let s = l .before .before .before .before .before in
-    let a = s .args in
-    let v = l .loop .inv in
-    c .before .before .before .before .before .before .before .before .before .enter-if .kept .1 .1 .1 .0 ∙ v .4
+same-length-4 c = kept-lengths (answered (c .before)) .letters
 
 returns : tie.Need-returns Inv-loop μ-loop
 returns c =
-    let l = c .before .before .before .before .before .before .before .before .before .before .before .before .before .before .before in
-    let s = l .before .before .before .before .before in
-    let a = s .args in
-    let v = l .loop .inv in
-    let e = c .before .before .before .before .before .before .before .before .before .enter-if in
-    let q = member-parts (a .members) (λ (k : ℕ). row k (a .goal .set) (a .goal .parent) (a .goal .letter)) (suc (l .loop .j)) 64 (omega (arith, c .before .before .before .before .before .before .before .before .before .before .before .before .before .before .loop-test .taken)) in
-    rw
-    (q .1)
-    (enters-stop
-    (columns (a .places .now) (a .sets .now) (a .parents .now) (a .letters .now))
-    (columns (e .last .0) (e .last .1 .0) (e .last .1 .1 .0) (e .last .1 .1 .1 .0))
-    (columns (e .last .0) (e .last .1 .0) (e .last .1 .1 .0) (e .last .1 .1 .1 .0)) (a .room) (a .used)
-    (eachMember (a .members) (λ (k : ℕ). row k (a .goal .set) (a .goal .parent) (a .goal .letter)) (suc (l .loop .j))) (q .0) (e .result)
-    (e .result) (s .pre) (more (c .before)) (c .if1 .taken))
+    let e = answered (c .before) in
+    let l = at-loop e in
+    stand-stop
+    (parts (start l)) (left e) (suc (l .loop .j)) 64 (e .enter-if .result)
+    (omega (arith, e .before .before .before .before .before .loop-test .taken)) (more e) (c .if1 .taken)
 
 add-j : tie.Need-add-j Inv-loop μ-loop
 add-j c = search needs
@@ -125,17 +109,10 @@ loop-less c = search needs
 
 loop-again : tie.Need-loop-again Inv-loop μ-loop
 loop-again c =
-    let l = c .before .before .before .before .before .before .before .before .before .before .before .before .before .before .before in
-    let s = l .before .before .before .before .before in
-    let a = s .args in
-    let v = l .loop .inv in
-    let e = c .before .before .before .before .before .before .before .before .before .enter-if in (
-      omega (arith, c .before .before .before .before .before .before .before .before .before .before .before .before .before .before .loop-test .taken),
-      e .kept .0 ∙ v .1,
-      e .kept .1 .0 ∙ v .2,
-      e .kept .1 .1 .0 ∙ v .3,
-      e .kept .1 .1 .1 .0 ∙ v .4,
-      rw add-one (enters-open _ _ _ _ (more (c .before)) (c .if1 .left)),
+    let e = answered (c .before) in (
+      omega (arith, e .before .before .before .before .before .loop-test .taken),
+      kept-lengths e,
+      stand-again (parts (start (at-loop e))) (left e) (at-loop e .loop .j) (e .enter-if .result) (more e) (c .if1 .left),
     )
 
 same-length-5 : tie.Need-same-length-5 Inv-loop μ-loop
@@ -153,10 +130,7 @@ same-length-8 c = search needs
 returns-2 : tie.Need-returns-2 Inv-loop μ-loop
 returns-2 c =
     let l = c .before in
-    let a = l .before .before .before .before .before .args in
-    subst
-    (λ (n : ℕ). Enters (columns (a .places .now) (a .sets .now) (a .parents .now) (a .letters .now)) (columns (l .loop .places) (l .loop .sets) (l .loop .parents) (l .loop .letters)) (enterAll (a .room) (eachMember (a .members) (λ (k : ℕ). row k (a .goal .set) (a .goal .parent) (a .goal .letter)) n) (entering (rowsIn (columns (a .places .now) (a .sets .now) (a .parents .now) (a .letters .now)) (a .used)))) (entered (l .loop .u) false))
-    (omega arith) (l .loop .inv .5)
+    subst (λ (n : ℕ). Stand (parts (start l)) (standing l) n (entered (l .loop .u) false)) (omega arith) (l .loop .inv .2)
 
 pub enter-members-spec : {M : Type 1} → statement M
 enter-members-spec =

@@ -8,12 +8,15 @@ use Rattle.columns.proofs.Calling.{run-refused, run-impossible, run-don
 use Rattle.columns.proofs.run_on.Statement.{statement}
 use Rattle.columns.proofs.run_on.Tie as tie
 
--- what was given and lent, at the place where the sides were prepared
+-- where the function began, seen from where the sides were prepared, and what was given and lent
+abbrev start : tie.After-sides-of → tie.Start
+start s = s .before .before .before .before .before .before .before
+
 abbrev given-at : tie.After-sides-of → Given
-given-at s = let a = s .before .before .before .before .before .before .before .args in given (a .ls) (a .left .now) (a .rs) (a .right .now)
+given-at s = let a = start s .args in given (a .ls) (a .left .now) (a .rs) (a .right .now)
 
 abbrev columns-at : tie.After-sides-of → Columns
-columns-at s = let a = s .before .before .before .before .before .before .before .args in columns (a .places .now) (a .sets .now) (a .parents .now) (a .letters .now)
+columns-at s = let a = start s .args in columns (a .places .now) (a .sets .now) (a .parents .now) (a .letters .now)
 
 -- that place, seen from where the room is known, and from where 16 was asked
 abbrev before-room : tie.After-room-of → tie.After-sides-of
@@ -26,16 +29,16 @@ before-asked i = before-room (i .before .before .before .before .before)
 passed : (q : tie.After-room-of) → before-room q .sides-of .result .why .refusal .number ≡ 0
 passed q = q .before .before .before .before .if1 .left
 
-room-is : (q : tie.After-room-of) → let s = before-room q in q .room-of .result ≡ roomOf (lentIn (s .before .before .before .before .before .before .before .args .lent) (columns-at s))
+room-is : (q : tie.After-room-of) → let s = before-room q in q .room-of .result ≡ roomOf (lentIn (start s .args .lent) (columns-at s))
 room-is q = q .room-of .ensures ∙ ap roomOf (q .before .shortest .ensures)
 
 -- 16 as it was asked is 16 of what was given and lent
-asked : (i : tie.After-is-impossible) → let s = before-asked i in let r = s .before .before .before .before .before .before .before .args .run in
-    impossibleFor (given-at s) (lentIn (s .before .before .before .before .before .before .before .args .lent) (columns-at s)) (rowsIn (columns-at s) (r .used)) r ≡ i .is-impossible .result
+asked : (i : tie.After-is-impossible) → let s = before-asked i in let r = start s .args .run in
+    impossibleFor (given-at s) (lentIn (start s .args .lent) (columns-at s)) (rowsIn (columns-at s) (r .used)) r ≡ i .is-impossible .result
 asked i =
     let q = i .before .before .before .before .before in
     let s = before-asked i in
-    let a = s .before .before .before .before .before .before .before .args in
+    let a = start s .args in
     impossible-is
     (given-at s) (s .sides-of .result) (s .sides-of .ensures) (a .lent) (columns-at s) (passed q) (a .run) (q .room-of .result) (room-is q)
     (i .is-impossible .result) (i .is-impossible .ensures)
@@ -46,7 +49,7 @@ sides-of-requires c κs = search needs
 returns : tie.Need-returns
 returns c =
     let s = c .before .before .before in
-    let a = s .before .before .before .before .before .before .before .args in
+    let a = start s .args in
     run-refused (given-at s) (s .sides-of .result) (s .sides-of .ensures) (a .lent) (columns-at s) (a .run) (a .budget) (c .if1 .taken)
 
 shortest-requires : tie.Need-shortest-requires
@@ -59,7 +62,7 @@ is-impossible-requires : tie.Need-is-impossible-requires
 is-impossible-requires c κs =
     let q = c .before .before .before .before in
     let s = before-room q in
-    let a = s .before .before .before .before .before .before .before .args in
+    let a = start s .args in
     fits-room (given-at s) (s .sides-of .result) (s .sides-of .ensures) (a .lent) (columns-at s) (passed q) (a .run) (q .room-of .result) (room-is q) 0 (omega arith)
 
 both-requires : tie.Need-both-requires
@@ -81,7 +84,7 @@ returns-2 : tie.Need-returns-2
 returns-2 c =
     let i = c .before .before in
     let s = before-asked i in
-    let a = s .before .before .before .before .before .before .before .args in
+    let a = start s .args in
     run-impossible (given-at s) (s .sides-of .result) (s .sides-of .ensures) (a .lent) (columns-at s) (a .run) (a .budget) (passed (i .before .before .before .before .before))
     (c .both .result) (c .both .ensures) (asked i ∙ c .before .if2 .taken)
 
@@ -90,7 +93,7 @@ run-sides-requires c κs =
     let i = c .before .before .before .before .before in
     let q = i .before .before .before .before .before in
     let s = before-asked i in
-    let a = s .before .before .before .before .before .before .before .args in
+    let a = start s .args in
     runnable (given-at s) (s .sides-of .result) (s .sides-of .ensures) (a .lent) (columns-at s) (passed q) (a .run) (q .room-of .result) (room-is q)
     (sym (i .is-impossible .ensures) ∙ c .before .before .before .before .if2 .left)
 
@@ -112,7 +115,7 @@ returns-3 c =
     let i = w .before .before .before .before .before .before in
     let q = i .before .before .before .before .before in
     let s = before-asked i in
-    let a = s .before .before .before .before .before .before .before .args in
+    let a = start s .args in
     let e = w .run-sides in
     let left = columns (e .last .0) (e .last .1 .0) (e .last .1 .1 .0) (e .last .1 .1 .1 .0) in
     run-done (given-at s) (s .sides-of .result) (s .sides-of .ensures) (a .lent) (columns-at s) (a .run) (a .budget) (passed q) left (e .result)

@@ -1,11 +1,21 @@
 -- `columns::start_on`. Refused for a side, refused for no rows, or row 0 at the front of the columns.
 use mathlib.Core.Path.{sym, _∙_}
 use borrow.Author.Needs.{needs}
-use Rattle.goals.specs.Refusals.{given}
-use Rattle.columns.specs.Calls.{columns}
+use Rattle.goals.specs.Refusals.{Given, given}
+use Rattle.columns.specs.Calls.{Columns, columns}
 use Rattle.columns.proofs.Calling.{start-sides, start-none, start-done}
 use Rattle.columns.proofs.start_on.Statement.{statement}
 use Rattle.columns.proofs.start_on.Tie as tie
+
+-- where the function began, seen from where the sides were prepared, and what was given and lent
+abbrev start : tie.After-sides-of → tie.Start
+start s = s .before .before .before .before .before .before .before
+
+abbrev given-at : tie.After-sides-of → Given
+given-at s = let a = start s .args in given (a .ls) (a .left .now) (a .rs) (a .right .now)
+
+abbrev columns-at : tie.After-sides-of → Columns
+columns-at s = let a = start s .args in columns (a .places .now) (a .sets .now) (a .parents .now) (a .letters .now)
 
 sides-of-requires : tie.Need-sides-of-requires
 sides-of-requires c κs = search needs
@@ -13,10 +23,8 @@ sides-of-requires c κs = search needs
 returns : tie.Need-returns
 returns c =
     let s = c .before .before .before in
-    let a = s .before .before .before .before .before .before .before .args in
     start-sides
-    (given (a .ls) (a .left .now) (a .rs) (a .right .now)) (s .sides-of .result) (s .sides-of .ensures) (a .lent)
-    (columns (a .places .now) (a .sets .now) (a .parents .now) (a .letters .now)) (c .if1 .taken)
+    (given-at s) (s .sides-of .result) (s .sides-of .ensures) (start s .args .lent) (columns-at s) (c .if1 .taken)
 
 shortest-requires : tie.Need-shortest-requires
 shortest-requires c κs = search needs
@@ -29,10 +37,8 @@ returns-2 c =
     let l = c .before .before in
     let n = l .before in
     let s = n .before .before .before in
-    let a = s .before .before .before .before .before .before .before .args in
     start-none
-    (given (a .ls) (a .left .now) (a .rs) (a .right .now)) (s .sides-of .result) (s .sides-of .ensures) (a .lent)
-    (columns (a .places .now) (a .sets .now) (a .parents .now) (a .letters .now)) (n .if1 .left) (c .both .result) (c .both .ensures)
+    (given-at s) (s .sides-of .result) (s .sides-of .ensures) (start s .args .lent) (columns-at s) (n .if1 .left) (c .both .result) (c .both .ensures)
     (sym (l .shortest .ensures) ∙ c .before .if2 .taken)
 
 slice-write-places : tie.Need-slice-write-places
@@ -64,10 +70,8 @@ returns-3 c =
     let l = c .before in
     let n = l .before in
     let s = n .before .before .before in
-    let a = s .before .before .before .before .before .before .before .args in
     start-done
-    (given (a .ls) (a .left .now) (a .rs) (a .right .now)) (s .sides-of .result) (s .sides-of .ensures) (a .lent)
-    (columns (a .places .now) (a .sets .now) (a .parents .now) (a .letters .now)) (n .if1 .left)
+    (given-at s) (s .sides-of .result) (s .sides-of .ensures) (start s .args .lent) (columns-at s) (n .if1 .left)
     (λ q. c .if2 .left (l .shortest .ensures ∙ q))
 
 pub start-on-spec : {M : Type 1} → statement M

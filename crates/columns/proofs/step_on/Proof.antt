@@ -1,10 +1,28 @@
 -- `columns::step_on`: a bad row ends the run (`step-bad`), any other is settled or finds no room (`step-next`).
 use native.Mathlib.Omega.{arith}
 use borrow.Author.Needs.{needs}
-use Rattle.columns.specs.Calls.{columns}
+use Rattle.columns.specs.Calls.{Columns, columns}
 use Rattle.columns.proofs.Stepping.{step-bad, step-next, enters-most}
 use Rattle.columns.proofs.step_on.Statement.{statement}
 use Rattle.columns.proofs.step_on.Tie as tie
+
+-- where the function began, seen from where the row was asked after, and the columns as they were lent
+abbrev start : tie.After-is-bad → tie.Start
+start b = b .before .before .before .before .before .before .before .before
+
+abbrev lent : tie.Start → Columns
+lent s = let a = s .args in columns (a .places .now) (a .sets .now) (a .parents .now) (a .letters .now)
+
+-- where the row was asked after, seen from where the goals were entered, and the columns as these left them
+abbrev asked : tie.After-enter-letters → tie.After-is-bad
+asked e = e .before .before .before .before .before .before .before .before .before .before
+
+abbrev left : tie.After-enter-letters → Columns
+left e = let z = e .enter-letters .last in columns (z .0) (z .1 .0) (z .1 .1 .0) (z .1 .1 .1 .0)
+
+-- where the goals were entered, seen from past what is known of the columns since
+abbrev answered : tie.After-slice-known10 → tie.After-enter-letters
+answered c = c .before .before .before .before .before .before .before .before
 
 cast-r : tie.Need-cast-r
 cast-r c = search needs
@@ -23,11 +41,10 @@ is-bad-requires c κs = search needs
 
 returns : tie.Need-returns
 returns c =
-    let s = c .before .before .before .before .before .before .before .before .before in
+    let b = c .before in
+    let s = start b in
     let a = s .args in
-    step-bad
-    (columns (a .places .now) (a .sets .now) (a .parents .now) (a .letters .now)) (a .room) (a .left) (a .right) (a .ls) (a .run) (s .pre) _
-    (c .before .is-bad .ensures) (c .if1 .taken)
+    step-bad (lent s) (a .room) (a .left) (a .right) (a .ls) (a .run) (s .pre) (b .is-bad .result) (b .is-bad .ensures) (c .if1 .taken)
 
 cast-followers-at : tie.Need-cast-followers-at
 cast-followers-at c =
@@ -51,9 +68,10 @@ enter-letters-requires c κs = search needs
 
 settled-requires : tie.Need-settled-requires
 settled-requires c κs =
-    let s = c .before .before .before .before .before .before .before .before .before .before .before .before .before .before .before .before .before .before .before .before .before .before .before .before .before .before in
+    let e = answered c in
+    let s = start (asked e) in
     let a = s .args in
-    let m = enters-most (columns (a .places .now) (a .sets .now) (a .parents .now) (a .letters .now)) _ (a .run .used) (a .room) _ _ (s .pre .fits) (c .before .before .before .before .before .before .before .before .enter-letters .ensures) in
+    let m = enters-most (lent s) (left e) (a .run .used) (a .room) _ (e .enter-letters .result) (s .pre .fits) (e .enter-letters .ensures) in
     (omega (arith, m, s .pre .fits .small), omega (arith, s .pre .left-over, s .pre .fits .used, s .pre .fits .small))
 
 same-length : tie.Need-same-length
@@ -70,18 +88,16 @@ same-length-4 c = search needs
 
 returns-2 : tie.Need-returns-2
 returns-2 c =
-    let s = c .before .before .before .before .before .before .before .before .before .before .before .before .before .before .before .before .before .before .before .before .before .before .before .before .before .before .before in
+    let e = answered (c .before) in
+    let b = asked e in
+    let s = start b in
     let a = s .args in
+    let f = e .before .before .before .before .before .before .before .followers-at in
+    let g = e .before .before .before .before .before .before .spread-of in
     step-next
-    (columns (a .places .now) (a .sets .now) (a .parents .now) (a .letters .now)) (a .room) (a .left) (a .right) (a .ls) (a .run) (s .pre) _
-    _ _ _ _ _
-    (c
-    .before .before .before .before .before .before .before .before .before .before .before .before .before .before .before .before .before
-    .before .before .is-bad .ensures)
-    (c .before .before .before .before .before .before .before .before .before .before .before .before .before .before .before .before .before .before .if1 .left)
-    (c .before .before .before .before .before .before .before .before .before .before .before .before .before .before .before .before .followers-at .ensures)
-    (c .before .before .before .before .before .before .before .before .before .before .before .before .before .before .before .spread-of .ensures)
-    (c .before .before .before .before .before .before .before .before .before .enter-letters .ensures) (c .settled .ensures)
+    (lent s) (a .room) (a .left) (a .right) (a .ls) (a .run) (s .pre) (left e) (b .is-bad .result) (f .result) (g .result)
+    (e .enter-letters .result) (c .settled .result) (b .is-bad .ensures) (e .before .before .before .before .before .before .before .before .before .if1 .left) (f .ensures) (g .ensures)
+    (e .enter-letters .ensures) (c .settled .ensures)
 
 pub step-on-spec : {M : Type 1} → statement M
 step-on-spec =

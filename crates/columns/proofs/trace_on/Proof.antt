@@ -14,12 +14,15 @@ use Rattle.columns.proofs.Climbing.{climb-length}
 use Rattle.columns.proofs.trace_on.Statement.{statement}
 use Rattle.columns.proofs.trace_on.Tie as tie
 
--- what was given and lent, at the place where the sides were prepared
+-- where the function began, seen from where the sides were prepared, and what was given and lent
+abbrev start : tie.After-sides-of → tie.Start
+start s = s .before .before .before .before .before .before .before .before
+
 abbrev given-at : tie.After-sides-of → Given
-given-at s = let a = s .before .before .before .before .before .before .before .before .args in given (a .ls) (a .left .now) (a .rs) (a .right .now)
+given-at s = let a = start s .args in given (a .ls) (a .left .now) (a .rs) (a .right .now)
 
 abbrev columns-at : tie.After-sides-of → Columns
-columns-at s = let a = s .before .before .before .before .before .before .before .before .args in columns (a .places .now) (a .sets .now) (a .parents .now) (a .letters .now)
+columns-at s = let a = start s .args in columns (a .places .now) (a .sets .now) (a .parents .now) (a .letters .now)
 
 -- that place, seen from where the room is known, and from where 16 was asked
 abbrev before-room : tie.After-room-of → tie.After-sides-of
@@ -32,34 +35,34 @@ before-asked i = before-room (i .before)
 passed : (q : tie.After-room-of) → before-room q .sides-of .result .why .refusal .number ≡ 0
 passed q = q .before .before .before .before .if1 .left
 
-room-is : (q : tie.After-room-of) → let s = before-room q in q .room-of .result ≡ roomOf (lentIn (s .before .before .before .before .before .before .before .before .args .lent) (columns-at s))
+room-is : (q : tie.After-room-of) → let s = before-room q in q .room-of .result ≡ roomOf (lentIn (start s .args .lent) (columns-at s))
 room-is q = q .room-of .ensures ∙ ap roomOf (q .before .shortest .ensures)
 
 -- 16 as it was asked is 16 of what was given and lent
-asked : (i : tie.After-is-impossible) → let s = before-asked i in let r = s .before .before .before .before .before .before .before .before .args .run in
-    impossibleFor (given-at s) (lentIn (s .before .before .before .before .before .before .before .before .args .lent) (columns-at s)) (rowsIn (columns-at s) (r .used)) r ≡ i .is-impossible .result
+asked : (i : tie.After-is-impossible) → let s = before-asked i in let r = start s .args .run in
+    impossibleFor (given-at s) (lentIn (start s .args .lent) (columns-at s)) (rowsIn (columns-at s) (r .used)) r ≡ i .is-impossible .result
 asked i =
     let q = i .before in
     let s = before-asked i in
-    let a = s .before .before .before .before .before .before .before .before .args in
+    let a = start s .args in
     impossible-is
     (given-at s) (s .sides-of .result) (s .sides-of .ensures) (a .lent) (columns-at s) (passed q) (a .run) (q .room-of .result) (room-is q)
     (i .is-impossible .result) (i .is-impossible .ensures)
 
 -- the refuted row's way is there
-found : (i : tie.After-is-impossible) → i .is-impossible .result ≡ false → before-asked i .before .before .before .before .before .before .before .before .args .run .outcome ≡ 2
-    → Traceable (columns-at (before-asked i)) (before-asked i .before .before .before .before .before .before .before .before .args .run)
+found : (i : tie.After-is-impossible) → i .is-impossible .result ≡ false → start (before-asked i) .args .run .outcome ≡ 2
+    → Traceable (columns-at (before-asked i)) (start (before-asked i) .args .run)
 found i h o =
     let q = i .before in
     let s = before-asked i in
-    let a = s .before .before .before .before .before .before .before .before .args in
+    let a = start s .args in
     traceable (given-at s) (s .sides-of .result) (s .sides-of .ensures) (a .lent) (columns-at s) (passed q) (a .run) (q .room-of .result) (room-is q) (sym (i .is-impossible .ensures) ∙ h) o
 
 -- the length of the trace does not depend on its letters
-length-is : (n : tie.After-trace-length) → let a = before-asked (n .before .before .before .before .before .before) .before .before .before .before .before .before .before .before .args in
+length-is : (n : tie.After-trace-length) → let a = start (before-asked (n .before .before .before .before .before .before)) .args in
     n .trace-length .result ≡ length (climb (a .parents .now) (a .letters .now) (a .run .settled) (a .run .settled))
 length-is n =
-    let a = before-asked (n .before .before .before .before .before .before) .before .before .before .before .before .before .before .before .args in
+    let a = start (before-asked (n .before .before .before .before .before .before)) .args in
     n .trace-length .ensures ∙ climb-length (a .parents .now) [] (a .letters .now) (a .run .settled) (a .run .settled)
 
 sides-of-requires : tie.Need-sides-of-requires
@@ -68,7 +71,7 @@ sides-of-requires c κs = search needs
 returns : tie.Need-returns
 returns c =
     let s = c .before .before .before in
-    let a = s .before .before .before .before .before .before .before .before .args in
+    let a = start s .args in
     trace-refused (given-at s) (s .sides-of .result) (s .sides-of .ensures) (a .lent) (columns-at s) (a .run) (a .out .now) (c .if1 .taken)
 
 shortest-requires : tie.Need-shortest-requires
@@ -80,7 +83,7 @@ room-of-requires c κs = search needs
 is-impossible-requires : tie.Need-is-impossible-requires
 is-impossible-requires c κs =
     let s = before-room c in
-    let a = s .before .before .before .before .before .before .before .before .args in
+    let a = start s .args in
     fits-room (given-at s) (s .sides-of .result) (s .sides-of .ensures) (a .lent) (columns-at s) (passed c) (a .run) (c .room-of .result) (room-is c) 0 (omega arith)
 
 both-requires : tie.Need-both-requires
@@ -90,7 +93,7 @@ returns-2 : tie.Need-returns-2
 returns-2 c =
     let i = c .before .before in
     let s = before-asked i in
-    let a = s .before .before .before .before .before .before .before .before .args in
+    let a = start s .args in
     trace-impossible (given-at s) (s .sides-of .result) (s .sides-of .ensures) (a .lent) (columns-at s) (a .run) (a .out .now) (passed (i .before))
     (c .both .result) (c .both .ensures) (asked i ∙ c .before .if2 .taken)
 
@@ -101,7 +104,7 @@ returns-3 : tie.Need-returns-3
 returns-3 c =
     let i = c .before .before .before .before in
     let s = before-asked i in
-    let a = s .before .before .before .before .before .before .before .before .args in
+    let a = start s .args in
     trace-early (given-at s) (s .sides-of .result) (s .sides-of .ensures) (a .lent) (columns-at s) (a .run) (a .out .now) (passed (i .before))
     (c .both2 .result) (asked i ∙ c .before .before .before .if2 .left) (c .both2 .ensures) (c .before .if3 .taken)
 
@@ -124,7 +127,7 @@ returns-4 c =
     let n = c .before .before in
     let i = n .before .before .before .before .before .before in
     let s = before-asked i in
-    let a = s .before .before .before .before .before .before .before .before .args in
+    let a = start s .args in
     let refuted = n .before .before .before .if3 .left in
     let t = found i (n .before .before .before .before .before .if2 .left) refuted in
     trace-short (given-at s) (s .sides-of .result) (s .sides-of .ensures) (a .lent) (columns-at s) (a .run) (a .out .now) (passed (i .before))
@@ -146,7 +149,7 @@ returns-5 c =
     let n = w .before .before .before in
     let i = n .before .before .before .before .before .before in
     let s = before-asked i in
-    let a = s .before .before .before .before .before .before .before .before .args in
+    let a = start s .args in
     let refuted = n .before .before .before .if3 .left in
     trace-done (given-at s) (s .sides-of .result) (s .sides-of .ensures) (a .lent) (columns-at s) (a .run) (a .out .now) (passed (i .before))
     (asked i ∙ n .before .before .before .before .before .if2 .left) refuted (found i (n .before .before .before .before .before .if2 .left) refuted)
