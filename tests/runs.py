@@ -868,6 +868,11 @@ def large():
     v = Vectors()
     for section in (long_traces, many_letters, most_room, sides_of_63_and_more):
         section(v)
+    # It stands here, since the named vectors end with another record that ends the run.
+    v.title('a record whose letter is none of the program\'s ends the run, though all else of it is good')
+    good = v.input[1]
+    v.input += ['x' + good[1:], good]
+    v.expected.append('bad record')
     return v
 
 

@@ -12,86 +12,137 @@ use goals::Run;
 ghost use mathlib.Core.Path.{_≡_};
 ghost use lib.ListN.{length};
 
-// What a call leaves to the next: how many rows are lent, and the record of the run.
-struct State {
-    lent: usize,
-    run: Run,
+// The kinds of calls, by their numbers in a record; main.rt says what each does.
+const START: u32 = 0;
+
+const RUN: u32 = 1;
+
+const TRACE: u32 = 2;
+
+const FORGE_RECORD: u32 = 3;
+
+const FORGE_ROW: u32 = 4;
+
+const REPEAT_ROW: u32 = 5;
+
+const LEND: u32 = 6;
+
+const SHOW: u32 = 7;
+
+const START_ON_ROWS: u32 = 8;
+
+const RUN_ON_ROWS: u32 = 9;
+
+const TRACE_ON_ROWS: u32 = 10;
+
+// A number that is no call's.
+const NO_CALL: u32 = 11;
+
+// As many letters as the buffer of a trace call has room for.
+const LONGEST_TRACE: u32 = 512;
+
+// What a call is made on besides the nodes and the columns: the s of each side, how many rows are lent, and
+// the record of the run.
+pub(crate) struct State {
+    pub(crate) ls: u8,
+    pub(crate) rs: u8,
+    pub(crate) lent: usize,
+    pub(crate) run: Run,
 }
 
-// A call as the record has it: its kind and what goes with it, and three numbers.
+// A call, taken apart: its kind; the byte and the length in its head; its numbers a and b, apart and as one;
+// its number c; and the rows that it forges or shows, from `from` on, below `to`.
 struct Call {
-    head: u32,
+    kind: u32,
+    byte: u8,
+    length: usize,
     a: u32,
     b: u32,
+    ab: u64,
     c: u32,
+    from: usize,
+    to: usize,
 }
 
-// As many rows lent as a record says, and no run yet.
-fn first(lent: u64) -> State {
-    let run = Run {
-        settled: 0,
-        used: 0,
-        outcome: 0,
-    };
+// The same with another record.
+fn with_run(state: State, run: Run) -> State {
     State {
-        lent: lent as usize,
-        run: run,
-    }
-}
-
-fn lend(state: State, call: Call) -> State {
-    let run = state.run;
-    State {
-        lent: hex::eight(call.a, call.b) as usize,
-        run: run,
-    }
-}
-
-fn forge(state: State, call: Call) -> State {
-    let run = Run {
-        settled: call.a,
-        used: call.b,
-        outcome: (call.head / 65536 % 256) as u8,
-    };
-    State {
+        ls: state.ls,
+        rs: state.rs,
         lent: state.lent,
         run: run,
     }
 }
 
-fn row_of(call: Call) -> Row {
+// Forges the record, or lends another number of rows from here on.
+fn forge(state: State, call: Call) -> State {
+    let run = state.run;
+    if call.kind == LEND {
+        return State {
+            ls: state.ls,
+            rs: state.rs,
+            lent: call.ab as usize,
+            run: run,
+        };
+    }
+    let forged = Run {
+        settled: call.a,
+        used: call.b,
+        outcome: call.byte,
+    };
+    with_run(state, forged)
+}
+
+// What the rows become that a call forges: the row that it has, or the one before them.
+fn row_of(places: &[u8], sets: &[u64], parents: &[u16], letters: &[u16], call: Call) -> Row {
+    if call.kind == REPEAT_ROW {
+        return rows::before(places, sets, parents, letters, call.from);
+    }
     Row {
-        set: hex::eight(call.a, call.b),
+        set: call.ab,
         parent: (call.c / 65536) as u16,
         letter: (call.c % 65536) as u16,
-        place: (call.head / 65536 % 256) as u8,
+        place: call.byte,
     }
 }
 
-// Prints what was answered. The record is the new one, or after a refusal the old.
-fn keep(name: &[u8], state: State, answer: Called) -> State {
-    print::word(name);
+// Forges one row, or repeats the row before.
+fn forge_rows(
+    places: &mut [u8],
+    sets: &mut [u64],
+    parents: &mut [u16],
+    letters: &mut [u16],
+    call: Call,
+) {
+    let row = row_of(places, sets, parents, letters, call);
+    rows::fill(places, sets, parents, letters, call.from, call.to, row);
+}
+
+// What a call on columns answered, as one on rows tells it: after a refusal the record is the old one.
+fn told(answer: Called, held: Run) -> Told {
     match answer {
-        Called::Accepted(run) => {
-            print::run(run);
-            State {
-                lent: state.lent,
-                run: run,
-            }
+        Called::Accepted(run) => Told {
+            run: run,
+            answer: Answered::Accepted,
         },
-        Called::Refused(why) => {
-            print::refused(why);
-            print::word(b"\n");
-            state
+        Called::Refused(why) => Told {
+            run: held,
+            answer: Answered::Refused(why),
         },
     }
 }
 
-// The same of a call on rows, which tells the record in either case.
-fn keep_told(name: &[u8], state: State, told: Told) -> State {
+// A line begins with the name of its call.
+fn show_name(kind: u32) {
+    match kind {
+        START | START_ON_ROWS => print::word(b"start"),
+        _ => print::word(b"run"),
+    }
+}
+
+fn show_told(told: Told) {
     let run = told.run;
     let answer = told.answer;
-    print::word(name);
     match answer {
         Answered::Accepted => print::run(run),
         Answered::Refused(why) => {
@@ -99,108 +150,108 @@ fn keep_told(name: &[u8], state: State, told: Told) -> State {
             print::word(b"\n");
         },
     }
-    State {
-        lent: state.lent,
-        run: run,
-    }
 }
 
-fn show_tracing(answer: Tracing, out: &[u8]) {
+// Prints what a start or run call told, and keeps its record.
+fn keep(state: State, call: Call, told: Told) -> State {
+    let run = told.run;
+    show_name(call.kind);
+    show_told(told);
+    with_run(state, run)
+}
+
+// A start or run call on columns.
+fn call_columns(
+    left: &[u32],
+    right: &[u32],
+    places: &mut [u8],
+    sets: &mut [u64],
+    parents: &mut [u16],
+    letters: &mut [u16],
+    state: State,
+    call: Call,
+) -> State {
+    let held = state.run;
+    if call.kind == START {
+        let answer = columns::start_on(
+            state.ls,
+            left,
+            state.rs,
+            right,
+            state.lent,
+            places,
+            sets,
+            parents,
+            letters,
+        );
+        return keep(state, call, told(answer, held));
+    }
+    let answer = columns::run_on(
+        state.ls,
+        left,
+        state.rs,
+        right,
+        state.lent,
+        places,
+        sets,
+        parents,
+        letters,
+        held,
+        call.ab,
+    );
+    keep(state, call, told(answer, held))
+}
+
+// A start or run call on rows.
+fn call_rows(
+    left: &[u32],
+    right: &[u32],
+    places: &mut [u8],
+    sets: &mut [u64],
+    parents: &mut [u16],
+    letters: &mut [u16],
+    state: State,
+    call: Call,
+) -> State {
+    let held = state.run;
+    let told = compare::call_table(
+        call.kind == START_ON_ROWS,
+        state.ls,
+        left,
+        state.rs,
+        right,
+        state.lent,
+        places,
+        sets,
+        parents,
+        letters,
+        held,
+        call.ab,
+    );
+    keep(state, call, told)
+}
+
+// Prints what a trace call answered, and the n bytes that it was lent of the buffer.
+fn show_tracing(answer: Tracing, out: [u8; 512], n: usize) {
     print::word(b"trace");
     match answer {
-        Tracing::Accepted(n) => print::decimal(b" length ", n as u64),
+        Tracing::Accepted(length) => print::decimal(b" length ", length as u64),
         Tracing::Refused(why) => print::refused(why),
     }
-    print::bytes(b" out", out);
+    let lent = hex::within(n, &out);
+    print::bytes(b" out", &out[..lent]);
 }
 
-// As many letters as a trace may have here.
+// What a trace is written to: ee in each byte beforehand.
 fn buffer() -> [u8; 512]
     ensures { λ r. ⌜ 512 ≡ length r ⌝ }
 {
     [0xee; 512]
 }
 
-// A trace call, on rows or on columns.
-fn traced(
-    on_rows: bool,
-    ls: u8,
+// A trace call on columns.
+fn trace_columns(
     left: &[u32],
-    rs: u8,
-    right: &[u32],
-    places: &[u8],
-    sets: &[u64],
-    parents: &[u16],
-    letters: &[u16],
-    state: State,
-    out: &mut [u8],
-) -> Tracing {
-    let run = state.run;
-    let lent = state.lent;
-    if on_rows {
-        compare::trace_table(
-            ls,
-            left,
-            rs,
-            right,
-            lent,
-            places,
-            sets,
-            parents,
-            letters,
-            run,
-            out,
-        )
-    } else {
-        columns::trace_on(
-            ls,
-            left,
-            rs,
-            right,
-            lent,
-            places,
-            sets,
-            parents,
-            letters,
-            run,
-            out,
-        )
-    }
-}
-
-fn trace_to(
-    on_rows: bool,
-    ls: u8,
-    left: &[u32],
-    rs: u8,
-    right: &[u32],
-    places: &[u8],
-    sets: &[u64],
-    parents: &[u16],
-    letters: &[u16],
-    state: State,
-    out: &mut [u8],
-) {
-    let answer = traced(
-        on_rows,
-        ls,
-        left,
-        rs,
-        right,
-        places,
-        sets,
-        parents,
-        letters,
-        state,
-        out,
-    );
-    show_tracing(answer, out);
-}
-
-fn trace(
-    ls: u8,
-    left: &[u32],
-    rs: u8,
     right: &[u32],
     places: &[u8],
     sets: &[u64],
@@ -209,155 +260,78 @@ fn trace(
     state: State,
     call: Call,
 ) {
-    let asked = (call.head % 65536) as usize;
+    let held = state.run;
     let mut out = buffer();
-    let n = hex::within(asked, &out);
-    if n < asked {
-        print::word(b"bad call\n");
-        return;
-    }
-    trace_to(
-        call.head / 16777216 == 10,
-        ls,
+    let n = hex::within(call.length, &out);
+    let answer = columns::trace_on(
+        state.ls,
         left,
-        rs,
+        state.rs,
         right,
+        state.lent,
         places,
         sets,
         parents,
         letters,
-        state,
+        held,
         &mut out[..n],
     );
+    show_tracing(answer, out, n);
 }
 
-fn start(
-    ls: u8,
+// A trace call on rows.
+fn trace_rows(
     left: &[u32],
-    rs: u8,
     right: &[u32],
-    places: &mut [u8],
-    sets: &mut [u64],
-    parents: &mut [u16],
-    letters: &mut [u16],
+    places: &[u8],
+    sets: &[u64],
+    parents: &[u16],
+    letters: &[u16],
     state: State,
-) -> State {
-    let answer = columns::start_on(
-        ls,
-        left,
-        rs,
-        right,
-        state.lent,
-        places,
-        sets,
-        parents,
-        letters,
-    );
-    keep(b"start", state, answer)
-}
-
-fn run(
-    ls: u8,
-    left: &[u32],
-    rs: u8,
-    right: &[u32],
-    places: &mut [u8],
-    sets: &mut [u64],
-    parents: &mut [u16],
-    letters: &mut [u16],
-    state: State,
-    call: Call,
-) -> State {
-    let record = state.run;
-    let answer = columns::run_on(
-        ls,
-        left,
-        rs,
-        right,
-        state.lent,
-        places,
-        sets,
-        parents,
-        letters,
-        record,
-        hex::eight(call.a, call.b),
-    );
-    keep(b"run", state, answer)
-}
-
-// A start or run call on rows.
-fn call_rows(
-    ls: u8,
-    left: &[u32],
-    rs: u8,
-    right: &[u32],
-    places: &mut [u8],
-    sets: &mut [u64],
-    parents: &mut [u16],
-    letters: &mut [u16],
-    state: State,
-    call: Call,
-) -> State {
-    let begins = call.head / 16777216 == 8;
-    let record = state.run;
-    let told = compare::call_table(
-        begins,
-        ls,
-        left,
-        rs,
-        right,
-        state.lent,
-        places,
-        sets,
-        parents,
-        letters,
-        record,
-        hex::eight(call.a, call.b),
-    );
-    if begins {
-        keep_told(b"start", state, told)
-    } else {
-        keep_told(b"run", state, told)
-    }
-}
-
-// The row before the first of those asked for; row 0 has none, and is its own.
-fn before(i: usize) -> usize {
-    if i > 0 { i - 1 } else { 0 }
-}
-
-// Forges or shows rows.
-fn on_rows(
-    places: &mut [u8],
-    sets: &mut [u64],
-    parents: &mut [u16],
-    letters: &mut [u16],
     call: Call,
 ) {
-    let from = call.a as usize;
-    let to = call.b as usize;
-    match call.head / 16777216 {
-        4 => rows::put(
-            places,
-            sets,
-            parents,
-            letters,
-            (call.head % 65536) as usize,
-            row_of(call),
-        ),
-        5 => {
-            let row = rows::at(places, sets, parents, letters, before(from));
-            rows::fill(places, sets, parents, letters, from, to, row);
-        },
-        7 => rows::show(places, sets, parents, letters, from, to),
+    let held = state.run;
+    let mut out = buffer();
+    let n = hex::within(call.length, &out);
+    let answer = compare::trace_table(
+        state.ls,
+        left,
+        state.rs,
+        right,
+        state.lent,
+        places,
+        sets,
+        parents,
+        letters,
+        held,
+        &mut out[..n],
+    );
+    show_tracing(answer, out, n);
+}
+
+// A call that changes nothing: a trace, or rows to be shown. Any other kind is bad.
+fn look(
+    left: &[u32],
+    right: &[u32],
+    places: &[u8],
+    sets: &[u64],
+    parents: &[u16],
+    letters: &[u16],
+    state: State,
+    call: Call,
+) {
+    let kind = call.kind;
+    match kind {
+        TRACE => trace_columns(left, right, places, sets, parents, letters, state, call),
+        TRACE_ON_ROWS => trace_rows(left, right, places, sets, parents, letters, state, call),
+        SHOW => rows::show(places, sets, parents, letters, call.from, call.to),
         _ => print::word(b"bad call\n"),
     }
 }
 
+// Makes a call, and answers what the next is made on.
 fn make(
-    ls: u8,
     left: &[u32],
-    rs: u8,
     right: &[u32],
     places: &mut [u8],
     sets: &mut [u64],
@@ -366,54 +340,19 @@ fn make(
     state: State,
     call: Call,
 ) -> State {
-    match call.head / 16777216 {
-        0 => start(ls, left, rs, right, places, sets, parents, letters, state),
-        1 => run(
-            ls,
-            left,
-            rs,
-            right,
-            places,
-            sets,
-            parents,
-            letters,
-            state,
-            call,
-        ),
-        2 | 10 => {
-            trace(
-                ls,
-                left,
-                rs,
-                right,
-                places,
-                sets,
-                parents,
-                letters,
-                state,
-                call,
-            );
-            state
+    let kind = call.kind;
+    match kind {
+        START | RUN => {
+            return call_columns(left, right, places, sets, parents, letters, state, call);
         },
-        8 | 9 => call_rows(
-            ls,
-            left,
-            rs,
-            right,
-            places,
-            sets,
-            parents,
-            letters,
-            state,
-            call,
-        ),
-        3 => forge(state, call),
-        6 => lend(state, call),
-        _ => {
-            on_rows(places, sets, parents, letters, call);
-            state
+        START_ON_ROWS | RUN_ON_ROWS => {
+            return call_rows(left, right, places, sets, parents, letters, state, call);
         },
+        FORGE_RECORD | LEND => return forge(state, call),
+        FORGE_ROW | REPEAT_ROW => forge_rows(places, sets, parents, letters, call),
+        _ => look(left, right, places, sets, parents, letters, state, call),
     }
+    state
 }
 
 // Number i + k, 0 past the end.
@@ -425,47 +364,73 @@ fn after(numbers: &[u32], i: usize, k: usize) -> u32 {
     }
 }
 
-// Call i of a record.
+// The kind of the call with this head; a trace call that asks for too long a buffer is none.
+fn kind_of(head: u32) -> u32 {
+    let kind = head / 16777216;
+    match kind {
+        TRACE | TRACE_ON_ROWS => if head % 65536 > LONGEST_TRACE {
+            NO_CALL
+        } else {
+            kind
+        },
+        _ => kind,
+    }
+}
+
+// The first of the rows that a call is about: the one in its head where it forges one, or else row a.
+fn from_of(head: u32, a: u32) -> usize {
+    if head / 16777216 == FORGE_ROW {
+        (head % 65536) as usize
+    } else {
+        a as usize
+    }
+}
+
+// The row behind the last that a call is about.
+fn to_of(head: u32, b: u32) -> usize {
+    if head / 16777216 == FORGE_ROW {
+        (head % 65536 + 1) as usize
+    } else {
+        b as usize
+    }
+}
+
+// The call whose head is number i.
 fn call_at(calls: &[u32], i: usize) -> Call {
+    let head = at::number(calls, i);
+    let a = after(calls, i, 1);
+    let b = after(calls, i, 2);
     Call {
-        head: at::number(calls, i),
-        a: after(calls, i, 1),
-        b: after(calls, i, 2),
+        kind: kind_of(head),
+        byte: (head / 65536 % 256) as u8,
+        length: (head % 65536) as usize,
+        a: a,
+        b: b,
+        ab: hex::eight(a, b),
         c: after(calls, i, 3),
+        from: from_of(head, a),
+        to: to_of(head, b),
     }
 }
 
 // Makes the calls one after the other.
 pub(crate) fn make_all(
-    ls: u8,
     left: &[u32],
-    rs: u8,
     right: &[u32],
     places: &mut [u8],
     sets: &mut [u64],
     parents: &mut [u16],
     letters: &mut [u16],
-    lent: u64,
+    first: State,
     calls: &[u32],
 ) {
-    let mut state = first(lent);
+    let mut state = first;
     let n = calls.len() / 4;
     let mut i: usize = 0;
     while i < n {
         let call = call_at(calls, 4 * i);
         i += 1;
-        let next = make(
-            ls,
-            left,
-            rs,
-            right,
-            places,
-            sets,
-            parents,
-            letters,
-            state,
-            call,
-        );
+        let next = make(left, right, places, sets, parents, letters, state, call);
         state = next;
     }
 }

@@ -75,30 +75,17 @@ fn line_end(input: &[u8], from: usize) -> usize
 }
 
 // Hands a record's bytes to the part that its letter names, which says whether it is one.
-fn hand(
-    letter: u8,
-    bytes: &[u8],
-    places: &mut [u8],
-    sets: &mut [u64],
-    parents: &mut [u16],
-    letters: &mut [u16],
-) -> bool {
+fn hand(letter: u8, bytes: &[u8]) -> bool {
     match letter {
         b's' => sheets::call(bytes),
         b'p' => tables::call(bytes),
-        b'g' => record::call(bytes, places, sets, parents, letters),
+        b'g' => record::call(bytes),
         _ => false,
     }
 }
 
 // The calls of a line that is a record.
-fn call_line(
-    line: &[u8],
-    places: &mut [u8],
-    sets: &mut [u64],
-    parents: &mut [u16],
-    letters: &mut [u16],
-) -> bool {
+fn call_line(line: &[u8]) -> bool {
     if line.len() == 0 {
         return false;
     }
@@ -108,41 +95,29 @@ fn call_line(
         return false;
     }
     let n = hex::within(k / 2, &bytes);
-    hand(line[0], &bytes[..n], places, sets, parents, letters)
+    hand(line[0], &bytes[..n])
 }
 
 // Prints the answer to a line, and says whether to go on.
-fn answer(
-    line: &[u8],
-    places: &mut [u8],
-    sets: &mut [u64],
-    parents: &mut [u16],
-    letters: &mut [u16],
-) -> bool {
+fn answer(line: &[u8]) -> bool {
     if at::byte(line, 0) == b'#' {
         print::word(line);
         print::word(b"\n");
         return true;
     }
-    let is_record = call_line(line, places, sets, parents, letters);
+    let is_record = call_line(line);
     if !is_record {
         print::word(b"bad record\n");
     }
     is_record
 }
 
-// Answers line after line, up to the first that is no record. The columns are those of every record.
-fn answer_all(
-    input: &[u8],
-    places: &mut [u8],
-    sets: &mut [u64],
-    parents: &mut [u16],
-    letters: &mut [u16],
-) {
+// Answers line after line, up to the first that is no record.
+fn answer_all(input: &[u8]) {
     let mut from: usize = 0;
     while from < input.len() {
         let end = line_end(input, from);
-        let is_record = answer(&input[from..end], places, sets, parents, letters);
+        let is_record = answer(&input[from..end]);
         if !is_record {
             return;
         }
@@ -156,15 +131,5 @@ fn answer_all(
 fn main() {
     let mut input: [u8; 131072] = [0; 131072];
     let n = io::read_full(0, &mut input);
-    let mut places: [u8; 65540] = [0; 65540];
-    let mut sets: [u64; 65540] = [0; 65540];
-    let mut parents: [u16; 65540] = [0; 65540];
-    let mut letters: [u16; 65540] = [0; 65540];
-    answer_all(
-        &input[..n],
-        &mut places,
-        &mut sets,
-        &mut parents,
-        &mut letters,
-    );
+    answer_all(&input[..n]);
 }

@@ -1,58 +1,94 @@
-// The parts of a record that compares two sides, and the calls on them.
+// A record that compares two sides: its parts, and the calls on them.
 use crate::at;
 use crate::calls;
+use crate::calls::State;
 use crate::hex;
-use crate::rows;
+use goals::Run;
 ghost use mathlib.Core.Path.{_≡_};
+ghost use Prim.Native.Nat.{_≤_};
 ghost use lib.ListN.{length};
 
-fn longer(n: usize, m: usize) -> usize {
-    if n < m { m } else { n }
+// As many rows as a column may have.
+const ROWS: usize = 65540;
+
+// How many rows a column has, by number i of the head; no more than ROWS.
+fn rows_at(head: &[u32], i: usize) -> usize
+    ensures { λ r. ⌜ r ≤ 65540 ⌝ }
+{
+    let n = at::number(head, i) as usize;
+    if n < ROWS { n } else { ROWS }
+}
+
+// Whether no column is longer than ROWS.
+fn columns_fit(head: &[u32]) -> bool {
+    let places = at::number(head, 4) as usize <= ROWS;
+    let sets = at::number(head, 5) as usize <= ROWS;
+    let parents = at::number(head, 6) as usize <= ROWS;
+    let letters = at::number(head, 7) as usize <= ROWS;
+    places & sets & parents & letters
+}
+
+// A column of bytes that nothing wrote yet, ee in each byte. The others are of wider numbers.
+fn bytes() -> [u8; 65540]
+    ensures { λ r. ⌜ 65540 ≡ length r ⌝ }
+{
+    [0xee; 65540]
+}
+
+fn shorts() -> [u16; 65540]
+    ensures { λ r. ⌜ 65540 ≡ length r ⌝ }
+{
+    [0xeeee; 65540]
+}
+
+fn longs() -> [u64; 65540]
+    ensures { λ r. ⌜ 65540 ≡ length r ⌝ }
+{
+    [0xeeeeeeeeeeeeeeee; 65540]
+}
+
+// What the first call is made on, by the head: no run yet.
+fn state_of(head: &[u32]) -> State {
+    let first = at::number(head, 0);
+    let run = Run {
+        settled: 0,
+        used: 0,
+        outcome: 0,
+    };
+    State {
+        ls: (first / 16777216) as u8,
+        rs: (first / 65536 % 256) as u8,
+        lent: hex::eight(at::number(head, 2), at::number(head, 3)) as usize,
+        run: run,
+    }
 }
 
 // Makes the calls on columns that nothing wrote yet.
-fn make(
-    ls: u8,
-    left: &[u32],
-    rs: u8,
-    right: &[u32],
-    places: &mut [u8],
-    sets: &mut [u64],
-    parents: &mut [u16],
-    letters: &mut [u16],
-    lent: u64,
-    list: &[u32],
-) {
-    let longest = longer(
-        longer(places.len(), sets.len()),
-        longer(parents.len(), letters.len()),
-    );
-    let row = rows::unwritten();
-    rows::fill(places, sets, parents, letters, 0, longest, row);
+fn make(head: &[u32], left: &[u32], right: &[u32], list: &[u32]) {
+    let p = rows_at(head, 4);
+    let s = rows_at(head, 5);
+    let q = rows_at(head, 6);
+    let x = rows_at(head, 7);
+    let state = state_of(head);
+    let mut places = bytes();
+    let mut sets = longs();
+    let mut parents = shorts();
+    let mut letters = shorts();
     calls::make_all(
-        ls,
         left,
-        rs,
         right,
-        places,
-        sets,
-        parents,
-        letters,
-        lent,
+        &mut places[0..p],
+        &mut sets[0..s],
+        &mut parents[0..q],
+        &mut letters[0..x],
+        state,
         list,
     );
 }
 
-// Takes apart what follows a record's head: the nodes of both sides, and the calls.
-fn sides(
-    numbers: &[u32],
-    places: &mut [u8],
-    sets: &mut [u64],
-    parents: &mut [u16],
-    letters: &mut [u16],
-) -> bool {
-    let first = at::number(numbers, 0);
-    let n = 8 + (first % 65536) as usize;
+// Takes a record apart: its head of eight numbers, the nodes of both sides, and the calls.
+fn parts(numbers: &[u32]) -> bool {
+    let n = 8 + (at::number(numbers, 0) % 65536) as usize;
     let m = n + (at::number(numbers, 1) % 65536) as usize;
     if numbers.len() < m {
         return false;
@@ -60,52 +96,8 @@ fn sides(
     if (numbers.len() - m) % 4 != 0 {
         return false;
     }
-    make(
-        (first / 16777216) as u8,
-        &numbers[8..n],
-        (first / 65536 % 256) as u8,
-        &numbers[n..m],
-        places,
-        sets,
-        parents,
-        letters,
-        hex::eight(at::number(numbers, 2), at::number(numbers, 3)),
-        &numbers[m..],
-    );
+    make(numbers, &numbers[8..n], &numbers[n..m], &numbers[m..]);
     true
-}
-
-// Takes so many rows of each column as the head says.
-fn columns(
-    numbers: &[u32],
-    places: &mut [u8],
-    sets: &mut [u64],
-    parents: &mut [u16],
-    letters: &mut [u16],
-) -> bool {
-    let p = at::number(numbers, 4) as usize;
-    let s = at::number(numbers, 5) as usize;
-    let q = at::number(numbers, 6) as usize;
-    let x = at::number(numbers, 7) as usize;
-    if places.len() < p {
-        return false;
-    }
-    if sets.len() < s {
-        return false;
-    }
-    if parents.len() < q {
-        return false;
-    }
-    if letters.len() < x {
-        return false;
-    }
-    sides(
-        numbers,
-        &mut places[0..p],
-        &mut sets[0..s],
-        &mut parents[0..q],
-        &mut letters[0..x],
-    )
 }
 
 // Room for the numbers of the longest record.
@@ -117,18 +109,15 @@ fn room() -> [u32; 1024]
 
 // Makes the calls of a record, which has whole numbers, and says whether it is one. Where it is none,
 // nothing is printed.
-pub(crate) fn call(
-    record: &[u8],
-    places: &mut [u8],
-    sets: &mut [u64],
-    parents: &mut [u16],
-    letters: &mut [u16],
-) -> bool {
+pub(crate) fn call(record: &[u8]) -> bool {
     if record.len() % 4 != 0 {
         return false;
     }
     let mut numbers = room();
     hex::numbers(record, &mut numbers);
+    if !columns_fit(&numbers) {
+        return false;
+    }
     let n = hex::entries(record.len() / 4, &numbers);
-    columns(&numbers[..n], places, sets, parents, letters)
+    parts(&numbers[..n])
 }

@@ -3,16 +3,6 @@ use crate::at;
 use crate::print;
 use goals::Row;
 
-// What a row is that nothing wrote: no run has such a place.
-pub(crate) fn unwritten() -> Row {
-    Row {
-        set: 0xeeeeeeeeeeeeeeee,
-        parent: 0xeeee,
-        letter: 0xeeee,
-        place: 0xee,
-    }
-}
-
 fn put_byte(column: &mut [u8], i: usize, x: u8) {
     if i < column.len() {
         column[i] = x;
@@ -31,7 +21,7 @@ fn put_number(column: &mut [u16], i: usize, x: u16) {
     }
 }
 
-pub(crate) fn put(
+fn put(
     places: &mut [u8],
     sets: &mut [u64],
     parents: &mut [u16],
@@ -62,13 +52,20 @@ pub(crate) fn fill(
     }
 }
 
-// Row i; 0 where a column has none.
-pub(crate) fn at(places: &[u8], sets: &[u64], parents: &[u16], letters: &[u16], i: usize) -> Row {
+// The row before row i, 0 where a column has none. Row 0 is its own.
+pub(crate) fn before(
+    places: &[u8],
+    sets: &[u64],
+    parents: &[u16],
+    letters: &[u16],
+    i: usize,
+) -> Row {
+    let j = if i > 0 { i - 1 } else { 0 };
     Row {
-        set: at::set(sets, i),
-        parent: at::short(parents, i),
-        letter: at::short(letters, i),
-        place: at::byte(places, i),
+        set: at::set(sets, j),
+        parent: at::short(parents, j),
+        letter: at::short(letters, j),
+        place: at::byte(places, j),
     }
 }
 

@@ -7,15 +7,12 @@ use Rattle.try_calls.proofs.calls.make_all.Statement.{statement}
 use Rattle.try_calls.proofs.calls.make_all.Tie as tie
 
 abbrev Inv-loop : tie.InvT-loop
-Inv-loop ls left rs right places₀ sets₀ parents₀ letters₀ lent calls state₀ n i₀ places sets parents letters state i =
+Inv-loop left right places₀ sets₀ parents₀ letters₀ calls state₀ n i₀ places sets parents letters state i =
     (length places ≡ length places₀) × (length sets ≡ length sets₀) × (length parents ≡ length parents₀) × (length letters ≡ length letters₀)
 
 abbrev μ-loop : tie.MeasureT-loop
-μ-loop ls left rs right places₀ sets₀ parents₀ letters₀ lent calls state₀ n i₀ places sets parents letters state i =
+μ-loop left right places₀ sets₀ parents₀ letters₀ calls state₀ n i₀ places sets parents letters state i =
     n - i
-
-first-requires : tie.Need-first-requires Inv-loop μ-loop
-first-requires c κs = search needs
 
 loop-holds : tie.Need-loop-holds Inv-loop μ-loop
 loop-holds c = search needs
@@ -59,7 +56,6 @@ make-all-spec =
     (tie.spec
     Inv-loop
     μ-loop
-    first-requires
     loop-holds
     mul-call-at
     call-at-requires
