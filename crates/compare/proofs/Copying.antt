@@ -13,8 +13,12 @@ use denote.Slice.{sliceTy, sliceVal, Room}
 use Rattle.goals.specs.declared.Row.{Row}
 use Rattle.goals.proofs.Row as T
 
-abbrev pub Arg : Type 0
-Arg = RefT (List Row) × (ℕ × (RefT (List ℕ) × (RefT (List ℕ) × (RefT (List ℕ) × (RefT (List ℕ) × Unit {0})))))
+abbrev pub Table : Type 0
+Table = RefT (List Row) × (ℕ × (RefT (List ℕ) × (RefT (List ℕ) × (RefT (List ℕ) × (RefT (List ℕ) × Unit {0})))))
+
+-- each is long enough, as the contract asks
+abbrev pub Enough : Table → Type 0
+Enough b = (b .1 .0 ≤ length (b .0 .now)) × (b .1 .0 ≤ length (b .1 .1 .0 .now)) × (b .1 .0 ≤ length (b .1 .1 .1 .0 .now)) × (b .1 .0 ≤ length (b .1 .1 .1 .1 .0 .now)) × (b .1 .0 ≤ length (b .1 .1 .1 .1 .1 .0 .now))
 
 -- the parameters' locals: the rows by a reference of one kind, the columns by references of another
 abbrev pub locals : Mutability → Mutability → ℕ → ℕ → ℕ → ℕ → ℕ → ℕ → List (Ty × ℕ) → List (Ty × ℕ)
@@ -30,17 +34,13 @@ abbrev pub shares-of : Share → Share → Share → Share → Share → Shares 
 shares-of q₀ q₁ q₂ q₃ q₄ = (q₀, (q₁, (q₂, (q₃, (q₄, tt)))))
 
 module _ (x₀ : RefT (List Row)) (n : ℕ) (x₁ x₂ x₃ x₄ : RefT (List ℕ)) where
-  abbrev pub arg-of : Arg
-  arg-of = (x₀, (n, (x₁, (x₂, (x₃, (x₄, tt))))))
+  abbrev pub table-of : Table
+  table-of = (x₀, (n, (x₁, (x₂, (x₃, (x₄, tt))))))
 
   abbrev pub passed : List Val
   passed =
       sliceVal (x₀ .ptr) (length (x₀ .now)) ∷ vint w64 n ∷ sliceVal (x₁ .ptr) (length (x₁ .now)) ∷ sliceVal (x₂ .ptr) (length (x₂ .now)) ∷
       sliceVal (x₃ .ptr) (length (x₃ .now)) ∷ sliceVal (x₄ .ptr) (length (x₄ .now)) ∷ []
-
-  -- each is long enough, as the contract asks
-  abbrev pub Enough : Type 0
-  Enough = (n ≤ length (x₀ .now)) × (n ≤ length (x₁ .now)) × (n ≤ length (x₂ .now)) × (n ≤ length (x₃ .now)) × (n ≤ length (x₄ .now))
 
   -- each fits in memory
   abbrev pub Rooms : Type 0

@@ -17,9 +17,11 @@ use sound.Loop.{loop-rule}
 use Rattle.compare.proofs.Facts.{less}
 
 module _ {M : Type 1} (𝓤 : URA M) (H : Heap 𝓤) (A : Atoms 𝓤) (n : ℕ) (At : ℕ → List (Item 𝓤)) where
+  -- the measure: what is left to count, which each turn makes less, so the loop ends
   abbrev ≺ : ℕ → ℕ → Type 0
   ≺ j i = n - j < n - i
 
+  -- the invariant: what is had at i, which is not past n
   abbrev I : ℕ → SProp 𝓤
   I i = guard 𝓤 (i ≤ n) (⋆ 𝓤 H A (At i))
 
@@ -27,6 +29,7 @@ module _ {M : Type 1} (𝓤 : URA M) (H : Heap 𝓤) (A : Atoms 𝓤) (n : ℕ) 
   abbrev pub Beyond : ℕ → SProp 𝓤
   Beyond i = ex 𝓤 (λ (j : ℕ). guard 𝓤 (≺ j i) (I j))
 
+  -- what a turn from i ends with, being had at the next, is beyond i
   pub next : (i : ℕ) → i < n → ent 𝓤 (⋆ 𝓤 H A (At (suc i))) (Beyond i)
   next i small = via 𝓤 (I (suc i)) (guardI 𝓤 (suc i ≤ n) (⋆ 𝓤 H A (At (suc i))) small) (via 𝓤 (guard 𝓤 (≺ (suc i) i) (I (suc i))) (guardI 𝓤 (≺ (suc i) i) (I (suc i)) (less small)) (exI 𝓤 (λ (j : ℕ). guard 𝓤 (≺ j i) (I j)) (suc i)))
 

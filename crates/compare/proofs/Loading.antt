@@ -29,7 +29,8 @@ use denote.Triple.Statement.{Contract}
 use denote.Triple.Clauses.{ensured, lasts}
 use denote.Triple.Walked.{says}
 use Rattle.goals.specs.Refusals.{roomOf}
-use Rattle.compare.proofs.Callees.{R, Table, Enough}
+use Rattle.compare.proofs.Copying.{Table, Enough}
+use Rattle.compare.proofs.Callees.{R}
 use Rattle.compare.proofs.used_within as used′
 use Rattle.compare.proofs.load as load′
 

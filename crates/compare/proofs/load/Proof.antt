@@ -53,7 +53,7 @@ use Rattle.compare.proofs.Facts.{holds, fails, fits-16, fits-8, fits-2,
 use Rattle.compare.proofs.Elem.{look-elem, know-elem, store-elem}
 use Rattle.compare.proofs.Frames.{has-each, room-each, dies-each}
 use Rattle.compare.proofs.Counting.{Beyond, next as next-at, Turns, counts}
-use Rattle.compare.proofs.Copying.{locals, lfts, shares-of, arg-of, passed, Enough, Rooms}
+use Rattle.compare.proofs.Copying.{Enough, locals, lfts, shares-of, table-of, passed, Rooms}
 use Rattle.compare.proofs.load.Key.{name as #compare·load}
 use Rattle.compare.proofs.load as load′
 use Rattle.compare.proofs.load.Statement as stated
@@ -101,7 +101,7 @@ module _ {M : Type 1} (𝓤 : URA M) (H : Heap 𝓤) (A : Atoms 𝓤) (W : Given
   at = (slice-vals x₀, (vint w64 n ∷ [], (slice-vals x₁, (slice-vals x₂, (slice-vals x₃, (slice-vals x₄, tt))))))
 
   abbrev Post : Val → SProp 𝓤
-  Post = walkOf 𝓤 H A load′.ended stayed (load′.clauses 𝓤 H A at-mem run) .post ((κs, shares-of q₀ q₁ q₂ q₃ q₄, tt, arg-of x₀ n x₁ x₂ x₃ x₄, at), tt)
+  Post = walkOf 𝓤 H A load′.ended stayed (load′.clauses 𝓤 H A at-mem run) .post ((κs, shares-of q₀ q₁ q₂ q₃ q₄, tt, table-of x₀ n x₁ x₂ x₃ x₄, at), tt)
 
   -- of a column's borrow: what is had while it is shut, with its token, and the ghost variable and the open borrow while it is open
   abbrev Shut : (E : RattleType) → Lft → Share → RefT (List (E .Denot)) → List (E .Denot) → List (Item 𝓤) → List (Item 𝓤)
@@ -119,7 +119,7 @@ module _ {M : Type 1} (𝓤 : URA M) (H : Heap 𝓤) (A : Atoms 𝓤) (W : Given
   abbrev Had : List (Item 𝓤)
   Had = Shut u16 κ₄ q₄ x₄ (letters n) (Shut u16 κ₃ q₃ x₃ (parents n) (Shut u64 κ₂ q₂ x₂ (sets n) (Shut u8 κ₁ q₁ x₁ (places n) (‵ (flft κ₀ q₀) ∷ shared ∷ known ∷ []))))
 
-  module _ (enough : Enough x₀ n x₁ x₂ x₃ x₄) (rooms : Rooms x₀ n x₁ x₂ x₃ x₄) where
+  module _ (enough : Enough (table-of x₀ n x₁ x₂ x₃ x₄)) (rooms : Rooms x₀ n x₁ x₂ x₃ x₄) where
     long₁ : length (places n) ≡ length (x₁ .now)
     long₁ = loaded-length (λ r. r .place) n ys (x₁ .now) (enough .0) (enough .1)
 
@@ -135,7 +135,7 @@ module _ {M : Type 1} (𝓤 : URA M) (H : Heap 𝓤) (A : Atoms 𝓤) (W : Given
     exits : ent 𝓤 (⋆ 𝓤 H A Had) (Post vunit)
     exits =
         qed W Had ∵
-        suffices ! _ (ends-at 𝓤 H A load′.ended stayed (load′.clauses 𝓤 H A at-mem run) W ((κs, shares-of q₀ q₁ q₂ q₃ q₄, tt, arg-of x₀ n x₁ x₂ x₃ x₄, at), tt) vunit tt (tt, (tt, (places n, (sets n, (parents n, (letters n, tt)))))) (tt, (tt, (long₁, (long₂, (long₃, (long₄, tt))))))) $
+        suffices ! _ (ends-at 𝓤 H A load′.ended stayed (load′.clauses 𝓤 H A at-mem run) W ((κs, shares-of q₀ q₁ q₂ q₃ q₄, tt, table-of x₀ n x₁ x₂ x₃ x₄, at), tt) vunit tt (tt, (tt, (places n, (sets n, (parents n, (letters n, tt)))))) (tt, (tt, (long₁, (long₂, (long₃, (long₄, tt))))))) $
         says ! refl $
         -- the tokens
         nothing ! $ move ! (3 ∷ 0 ∷ []) $ join ! $ move ! (5 ∷ 0 ∷ []) $ join ! $ move ! (7 ∷ 0 ∷ []) $ join ! $ move ! (9 ∷ 0 ∷ []) $ join ! $ move ! (9 ∷ 0 ∷ []) $ join ! $ frame ! $
@@ -265,11 +265,11 @@ module _ {M : Type 1} (𝓤 : URA M) (H : Heap 𝓤) (A : Atoms 𝓤) (W : Given
       loops = counts 𝓤 H A n At W 𝓣 En turn Left more ends
 
     -- the MIR, up to the loop
-    walk : (𝓣 : Tables 𝓤 H) → ent 𝓤 (onEntry 𝓤 H A load′.signature κs (shares-of q₀ q₁ q₂ q₃ q₄) (arg-of x₀ n x₁ x₂ x₃ x₄) at)
+    walk : (𝓣 : Tables 𝓤 H) → ent 𝓤 (onEntry 𝓤 H A load′.signature κs (shares-of q₀ q₁ q₂ q₃ q₄) (table-of x₀ n x₁ x₂ x₃ x₄) at)
         (WpFn 𝓤 H (𝓣 .C) (𝓣 .Λ) code.function (passed x₀ n x₁ x₂ x₃ x₄) Post)
     walk 𝓣 =
         qed W ((‵ (flft κ₀ q₀) ⊛ ‵ (flft κ₁ q₁) ⊛ ‵ (flft κ₂ q₂) ⊛ ‵ (flft κ₃ q₃) ⊛ ‵ (flft κ₄ q₄) ⊛ ‵ ftrue)
-        ∷ ‵ (owns (ShrSlice (named 0) κ₀ R ∷ usize ∷ MutSlice (named 1) κ₁ u8 ∷ MutSlice (named 2) κ₂ u64 ∷ MutSlice (named 3) κ₃ u16 ∷ MutSlice (named 4) κ₄ u16 ∷ []) (arg-of x₀ n x₁ x₂ x₃ x₄) at) ∷ []) ∵
+        ∷ ‵ (owns (ShrSlice (named 0) κ₀ R ∷ usize ∷ MutSlice (named 1) κ₁ u8 ∷ MutSlice (named 2) κ₂ u64 ∷ MutSlice (named 3) κ₃ u16 ∷ MutSlice (named 4) κ₄ u16 ∷ []) (table-of x₀ n x₁ x₂ x₃ x₄) at) ∷ []) ∵
         split ! $ move ! (1 ∷ []) $ split ! $ move ! (1 ∷ []) $ split ! $ move ! (1 ∷ []) $ split ! $ move ! (1 ∷ []) $ split ! $
         move ! (6 ∷ []) $ fsplit ! $ fsplit ! $ drop ! $ fsplit ! $ move ! (2 ∷ []) $ fsplit ! $ drop ! $ fsplit ! $ fsplit ! $ drop ! $ fsplit ! $
         move ! (2 ∷ []) $ fsplit ! $ fsplit ! $ drop ! $ fsplit ! $ move ! (2 ∷ []) $ fsplit ! $ fsplit ! $ drop ! $ fsplit ! $ move ! (2 ∷ []) $ fsplit ! $ fsplit ! $ drop ! $ fsplit ! $
@@ -292,7 +292,7 @@ module _ {M : Type 1} (𝓤 : URA M) (H : Heap 𝓤) (A : Atoms 𝓤) (W : Given
   load-walks = walked 𝓤 H A load′.ended stayed (load′.clauses 𝓤 H A at-mem run) (WpFn 𝓤 H (𝓣 .C) (𝓣 .Λ) code.function)
       (λ κs. (slice-vals, (uint-vals w64, (slice-vals, (slice-vals, (slice-vals, (slice-vals, tt)))))))
       (λ κs. (shr-slice-tells (named 0) (κs .0) R, (uint-tells w64, (mut-slice-tells (named 1) (κs .1 .0) u8, (mut-slice-tells (named 2) (κs .1 .1 .0) u64, (mut-slice-tells (named 3) (κs .1 .1 .1 .0) u16, (mut-slice-tells (named 4) (κs .1 .1 .1 .1 .0) u16, tt)))))))
-      (λ κs qs bounds a g are. needs 𝓤 (Enough (a .0) (a .1 .0) (a .1 .1 .0) (a .1 .1 .1 .0) (a .1 .1 .1 .1 .0) (a .1 .1 .1 .1 .1 .0)) _ (λ enough.
+      (λ κs qs bounds a g are. needs 𝓤 (Enough a) _ (λ enough.
       walk 𝓤 H A W at-mem run (κs .0) (κs .1 .0) (κs .1 .1 .0) (κs .1 .1 .1 .0) (κs .1 .1 .1 .1 .0) (qs .0) (qs .1 .0) (qs .1 .1 .0) (qs .1 .1 .1 .0) (qs .1 .1 .1 .1 .0) (a .0) (a .1 .0) (a .1 .1 .0) (a .1 .1 .1 .0) (a .1 .1 .1 .1 .0) (a .1 .1 .1 .1 .1 .0)
       enough (are .0 .0 .1, are .1 .0 .1, are .1 .1 .0 .0 .1, are .1 .1 .1 .0 .0 .1, are .1 .1 .1 .1 .0 .0 .1, are .1 .1 .1 .1 .1 .0 .0 .1) 𝓣))
 

@@ -55,7 +55,7 @@ use Rattle.compare.proofs.Facts.{holds, fails, fits-16, fits-8, fits-2,
 use Rattle.compare.proofs.Elem.{look-elem, know-elem, store-elem}
 use Rattle.compare.proofs.Frames.{has-each, room-each, dies-each}
 use Rattle.compare.proofs.Counting.{Beyond, next as next-at, Turns, counts}
-use Rattle.compare.proofs.Copying.{locals, lfts, shares-of, arg-of, passed, Enough, Rooms}
+use Rattle.compare.proofs.Copying.{Enough, locals, lfts, shares-of, table-of, passed, Rooms}
 use Rattle.compare.proofs.store.Key.{name as #compare·store}
 use Rattle.compare.proofs.store as store′
 use Rattle.compare.proofs.store.Statement as stated
@@ -95,7 +95,7 @@ module _ {M : Type 1} (𝓤 : URA M) (H : Heap 𝓤) (A : Atoms 𝓤) (W : Given
   at = (slice-vals x₀, (vint w64 n ∷ [], (slice-vals x₁, (slice-vals x₂, (slice-vals x₃, (slice-vals x₄, tt))))))
 
   abbrev Post : Val → SProp 𝓤
-  Post = walkOf 𝓤 H A store′.ended stayed (store′.clauses 𝓤 H A at-mem run) .post ((κs, shares-of q₀ q₁ q₂ q₃ q₄, tt, arg-of x₀ n x₁ x₂ x₃ x₄, at), tt)
+  Post = walkOf 𝓤 H A store′.ended stayed (store′.clauses 𝓤 H A at-mem run) .post ((κs, shares-of q₀ q₁ q₂ q₃ q₄, tt, table-of x₀ n x₁ x₂ x₃ x₄, at), tt)
 
   long : (i : ℕ) → i ≤ length ys → length (table i) ≡ length ys
   long i le = stored-length held i ys le
@@ -119,11 +119,11 @@ module _ {M : Type 1} (𝓤 : URA M) (H : Heap 𝓤) (A : Atoms 𝓤) (W : Given
       ∷ ‵ (flft κ₀ q₀) ∷ ‵ (flft κ₁ q₁) ∷ shared u8 κ₁ x₁ ∷ known u8 x₁ ∷ ‵ (flft κ₂ q₂) ∷ shared u64 κ₂ x₂ ∷ known u64 x₂ ∷ ‵ (flft κ₃ q₃)
       ∷ shared u16 κ₃ x₃ ∷ known u16 x₃ ∷ ‵ (flft κ₄ q₄) ∷ shared u16 κ₄ x₄ ∷ known u16 x₄ ∷ []
 
-  module _ (enough : Enough x₀ n x₁ x₂ x₃ x₄) (rooms : Rooms x₀ n x₁ x₂ x₃ x₄) where
+  module _ (enough : Enough (table-of x₀ n x₁ x₂ x₃ x₄)) (rooms : Rooms x₀ n x₁ x₂ x₃ x₄) where
     exits : ent 𝓤 (⋆ 𝓤 H A Had) (Post vunit)
     exits =
         qed W Had ∵
-        suffices ! _ (ends-at 𝓤 H A store′.ended stayed (store′.clauses 𝓤 H A at-mem run) W ((κs, shares-of q₀ q₁ q₂ q₃ q₄, tt, arg-of x₀ n x₁ x₂ x₃ x₄, at), tt) vunit tt (table n, (tt, (tt, (tt, (tt, (tt, tt)))))) (long n (enough .0), (tt, (tt, (tt, (tt, (tt, tt))))))) $ says ! refl $
+        suffices ! _ (ends-at 𝓤 H A store′.ended stayed (store′.clauses 𝓤 H A at-mem run) W ((κs, shares-of q₀ q₁ q₂ q₃ q₄, tt, table-of x₀ n x₁ x₂ x₃ x₄, at), tt) vunit tt (table n, (tt, (tt, (tt, (tt, (tt, tt)))))) (long n (enough .0), (tt, (tt, (tt, (tt, (tt, tt))))))) $ says ! refl $
         nothing ! $ move ! (13 ∷ 0 ∷ []) $ join ! $ move ! (10 ∷ 0 ∷ []) $ join ! $ move ! (7 ∷ 0 ∷ []) $ join ! $ move ! (4 ∷ 0 ∷ []) $ join ! $ move ! (3 ∷ 0 ∷ []) $ join ! $ frame ! $ nothing ! $ move ! (10 ∷ 9 ∷ 0 ∷ []) $
         fjoin ! $ pureI ! (at-slice u16 x₄ (slice-vals x₄)) (tt, (tt, tt)) (refl, rooms .5) $ fjoin ! $ fjoin ! $ move ! (8 ∷ 7 ∷ 0 ∷ []) $ fjoin ! $ pureI ! (at-slice u16 x₃ (slice-vals x₃)) (tt, (tt, tt)) (refl, rooms .4) $
         fjoin ! $ fjoin ! $ move ! (6 ∷ 5 ∷ 0 ∷ []) $ fjoin ! $ pureI ! (at-slice u64 x₂ (slice-vals x₂)) (tt, (tt, tt)) (refl, rooms .3) $ fjoin ! $ fjoin ! $ move ! (4 ∷ 3 ∷ 0 ∷ []) $ fjoin ! $
@@ -241,11 +241,11 @@ module _ {M : Type 1} (𝓤 : URA M) (H : Heap 𝓤) (A : Atoms 𝓤) (W : Given
       loops = counts 𝓤 H A n At W 𝓣 En turn Left more ends
 
     -- the MIR, up to the loop
-    walk : (𝓣 : Tables 𝓤 H) → ent 𝓤 (onEntry 𝓤 H A store′.signature κs (shares-of q₀ q₁ q₂ q₃ q₄) (arg-of x₀ n x₁ x₂ x₃ x₄) at)
+    walk : (𝓣 : Tables 𝓤 H) → ent 𝓤 (onEntry 𝓤 H A store′.signature κs (shares-of q₀ q₁ q₂ q₃ q₄) (table-of x₀ n x₁ x₂ x₃ x₄) at)
         (WpFn 𝓤 H (𝓣 .C) (𝓣 .Λ) code.function (passed x₀ n x₁ x₂ x₃ x₄) Post)
     walk 𝓣 =
         qed W ((‵ (flft κ₀ q₀) ⊛ ‵ (flft κ₁ q₁) ⊛ ‵ (flft κ₂ q₂) ⊛ ‵ (flft κ₃ q₃) ⊛ ‵ (flft κ₄ q₄) ⊛ ‵ ftrue)
-        ∷ ‵ (owns (MutSlice (named 0) κ₀ R ∷ usize ∷ ShrSlice (named 1) κ₁ u8 ∷ ShrSlice (named 2) κ₂ u64 ∷ ShrSlice (named 3) κ₃ u16 ∷ ShrSlice (named 4) κ₄ u16 ∷ []) (arg-of x₀ n x₁ x₂ x₃ x₄) at) ∷ []) ∵
+        ∷ ‵ (owns (MutSlice (named 0) κ₀ R ∷ usize ∷ ShrSlice (named 1) κ₁ u8 ∷ ShrSlice (named 2) κ₂ u64 ∷ ShrSlice (named 3) κ₃ u16 ∷ ShrSlice (named 4) κ₄ u16 ∷ []) (table-of x₀ n x₁ x₂ x₃ x₄) at) ∷ []) ∵
         split ! $ move ! (1 ∷ []) $ split ! $ move ! (1 ∷ []) $ split ! $ move ! (1 ∷ []) $ split ! $ move ! (1 ∷ []) $ split ! $ move ! (6 ∷ []) $ fsplit ! $ fsplit ! $ drop ! $ fsplit ! $ move ! (2 ∷ []) $ fsplit ! $ drop ! $
         fsplit ! $ fsplit ! $ drop ! $ fsplit ! $ move ! (2 ∷ []) $ fsplit ! $ fsplit ! $ drop ! $ fsplit ! $ move ! (2 ∷ []) $ fsplit ! $ fsplit ! $ drop ! $ fsplit ! $ move ! (2 ∷ []) $ fsplit ! $ fsplit ! $ drop ! $ fsplit ! $
         keep ! (9 ∷ 10 ∷ 16 ∷ 8 ∷ 15 ∷ 7 ∷ 6 ∷ 14 ∷ 5 ∷ 4 ∷ 13 ∷ 3 ∷ 1 ∷ 11 ∷ 0 ∷ []) $
@@ -268,7 +268,7 @@ module _ {M : Type 1} (𝓤 : URA M) (H : Heap 𝓤) (A : Atoms 𝓤) (W : Given
   store-walks = walked 𝓤 H A store′.ended stayed (store′.clauses 𝓤 H A at-mem run) (WpFn 𝓤 H (𝓣 .C) (𝓣 .Λ) code.function)
       (λ κs. (slice-vals, (uint-vals w64, (slice-vals, (slice-vals, (slice-vals, (slice-vals, tt)))))))
       (λ κs. (mut-slice-tells (named 0) (κs .0) R, (uint-tells w64, (shr-slice-tells (named 1) (κs .1 .0) u8, (shr-slice-tells (named 2) (κs .1 .1 .0) u64, (shr-slice-tells (named 3) (κs .1 .1 .1 .0) u16, (shr-slice-tells (named 4) (κs .1 .1 .1 .1 .0) u16, tt)))))))
-      (λ κs qs bounds a g are. needs 𝓤 (Enough (a .0) (a .1 .0) (a .1 .1 .0) (a .1 .1 .1 .0) (a .1 .1 .1 .1 .0) (a .1 .1 .1 .1 .1 .0)) _ (λ enough.
+      (λ κs qs bounds a g are. needs 𝓤 (Enough a) _ (λ enough.
       walk 𝓤 H A W at-mem run (κs .0) (κs .1 .0) (κs .1 .1 .0) (κs .1 .1 .1 .0) (κs .1 .1 .1 .1 .0) (qs .0) (qs .1 .0) (qs .1 .1 .0) (qs .1 .1 .1 .0) (qs .1 .1 .1 .1 .0) (a .0) (a .1 .0) (a .1 .1 .0) (a .1 .1 .1 .0) (a .1 .1 .1 .1 .0) (a .1 .1 .1 .1 .1 .0)
       enough (are .0 .0 .1, are .1 .0 .1, are .1 .1 .0 .0 .1, are .1 .1 .1 .0 .0 .1, are .1 .1 .1 .1 .0 .0 .1, are .1 .1 .1 .1 .1 .0 .0 .1) 𝓣))
 

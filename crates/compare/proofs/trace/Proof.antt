@@ -65,7 +65,8 @@ use Rattle.demands.specs.Calls.{lent, Traces}
 use Rattle.compare.proofs.Frames.{has-each, room-each, dies-each}
 use Rattle.compare.proofs.Calling.{load-fits, traces-rows}
 use Rattle.compare.proofs.Lent.{big-lit, fills, unboxes, row-array, lend-row, row-back, share-row, unshare-row}
-use Rattle.compare.proofs.Callees.{R, S, Table, at-list, typed-run}
+use Rattle.compare.proofs.Copying.{Table}
+use Rattle.compare.proofs.Callees.{R, S, at-list, typed-run}
 use Rattle.compare.proofs.Loading.{zeros, zeros-is, zeros-long, room-u8, room-u16, room-u64, Six, Used, Load, to-used, goes-used, used-of, to-load, goes-load}
 use Rattle.compare.proofs.used_within as used
 use Rattle.compare.proofs.used_within.Symbol as used-def

@@ -62,7 +62,8 @@ use Rattle.demands.specs.Calls.{lent, Traces}
 use Rattle.compare.specs.Calls.{TracesTable}
 use Rattle.compare.proofs.Lent.{big-lit, boxes, unboxes, row-array, lend-row, row-back, share-row, unshare-row}
 use Rattle.compare.proofs.Frames.{has-each, room-each, dies-each}
-use Rattle.compare.proofs.Callees.{R, S, typed-run, Table, Enough, One, Store}
+use Rattle.compare.proofs.Copying.{Table, Enough}
+use Rattle.compare.proofs.Callees.{R, S, typed-run, One, Store}
 use Rattle.compare.proofs.Tabling.{cuts, glues, share-local, blank-value, blank-value-is, blanks, blanks-are, blanks-long, room-table, typed-row, typed-table, tabled, rest, table-fits, room-lent, table-long, Least, to-least, goes-least, least-of}
 use Rattle.compare.proofs.rows_lent as least′
 use Rattle.compare.proofs.rows_lent.Symbol as least-def
