@@ -118,20 +118,6 @@ fn forge_rows(
     rows::fill(places, sets, parents, letters, call.from, call.to, row);
 }
 
-// What a call on columns answered, as one on rows tells it: after a refusal the record is the old one.
-fn told(answer: Called, held: Run) -> Told {
-    match answer {
-        Called::Accepted(run) => Told {
-            run: run,
-            answer: Answered::Accepted,
-        },
-        Called::Refused(why) => Told {
-            run: held,
-            answer: Answered::Refused(why),
-        },
-    }
-}
-
 // A line begins with the name of its call.
 fn show_name(kind: u32) {
     match kind {
@@ -160,6 +146,22 @@ fn keep(state: State, call: Call, told: Told) -> State {
     with_run(state, run)
 }
 
+// The same of what a call on columns answered: after a refusal the record is the old one.
+fn keep_answer(state: State, call: Call, answer: Called) -> State {
+    let held = state.run;
+    let told = match answer {
+        Called::Accepted(run) => Told {
+            run: run,
+            answer: Answered::Accepted,
+        },
+        Called::Refused(why) => Told {
+            run: held,
+            answer: Answered::Refused(why),
+        },
+    };
+    keep(state, call, told)
+}
+
 // A start or run call on columns.
 fn call_columns(
     left: &[u32],
@@ -184,7 +186,7 @@ fn call_columns(
             parents,
             letters,
         );
-        return keep(state, call, told(answer, held));
+        return keep_answer(state, call, answer);
     }
     let answer = columns::run_on(
         state.ls,
@@ -199,7 +201,7 @@ fn call_columns(
         held,
         call.ab,
     );
-    keep(state, call, told(answer, held))
+    keep_answer(state, call, answer)
 }
 
 // A start or run call on rows.
