@@ -42,7 +42,7 @@ first-none r rs h = by (eqb (r .number) 0) refl h
     by false e z = absurd (eqb-false _ _ e z)
 
 -- rows after a refusal, and after none
-first-more : (xs ys : List Against) → (first xs .number ≡ 0 → ⊥) → first (xs ++ ys) ≡ first xs
+pub first-more : (xs ys : List Against) → (first xs .number ≡ 0 → ⊥) → first (xs ++ ys) ≡ first xs
 unfolding first
 first-more [] ys h = absurd (h refl)
 first-more (x ∷ xs) ys h = by (eqb (x .number) 0) h (first-more xs ys)
@@ -51,7 +51,7 @@ first-more (x ∷ xs) ys h = by (eqb (x .number) 0) h (first-more xs ys)
     by true k more = more k
     by false k more = refl
 
-first-past : (xs ys : List Against) → first xs .number ≡ 0 → first (xs ++ ys) ≡ first ys
+pub first-past : (xs ys : List Against) → first xs .number ≡ 0 → first (xs ++ ys) ≡ first ys
 unfolding first
 first-past [] ys h = refl
 first-past (x ∷ xs) ys h = by (eqb (x .number) 0) refl h (first-past xs ys)
@@ -59,6 +59,15 @@ first-past (x ∷ xs) ys h = by (eqb (x .number) 0) refl h (first-past xs ys)
     by : (b : Bool) → eqb (x .number) 0 ≡ b → cond b (first xs) x .number ≡ 0 → (first xs .number ≡ 0 → first (xs ++ ys) ≡ first ys) → cond b (first (xs ++ ys)) x ≡ first ys
     by true e z past = past z
     by false e z past = absurd (eqb-false _ _ e z)
+
+-- none of either part is a refusal
+pub first-parts : (xs ys : List Against) → first (xs ++ ys) .number ≡ 0 → (first xs .number ≡ 0) × (first ys .number ≡ 0)
+unfolding first
+first-parts [] ys h = (refl, h)
+first-parts (x ∷ xs) ys h =
+    let (a, b) = first-none x (xs ++ ys) h in
+    let (d, e) = first-parts xs ys b in
+    (ap (λ (w : Against). w .number) (first-skip (x .side) (x .number) xs a) ∙ d, e)
 
 -- both sides pass: their s decide
 pub first-both : (a b ls rs : ℕ) (t : Bool) → a ≡ 0 → b ≡ 0 → eqb ls rs ≡ t
@@ -71,7 +80,7 @@ first-both a b ls rs false e f h = rw (eq-eqb a 0 e, eq-eqb b 0 f, h)
 pub refused-some : (why : SideRefusal) → (why .refusal .number ≡ 0 → ⊥) → refusedBy why ≡ againstOf why
 refused-some why h = rw (ne-eqb (why .refusal .number) 0 h)
 
-refused-none : (why : SideRefusal) → why .refusal .number ≡ 0 → refusedBy why ≡ against 0 0
+pub refused-none : (why : SideRefusal) → why .refusal .number ≡ 0 → refusedBy why ≡ against 0 0
 refused-none why e = rw (eq-eqb (why .refusal .number) 0 e)
 
 pub refused-named : (why : SideRefusal) (side n : ℕ) → againstOf why ≡ against side n → refusedBy why ≡ cond (eqb n 0) (against 0 0) (against side n)

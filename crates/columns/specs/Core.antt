@@ -17,8 +17,9 @@ use Rattle.goals.specs.declared.Run.{Run}
 use Rattle.goals.specs.Run.{State}
 use Rattle.goals.specs.declared.SideRefusal.{SideRefusal}
 use Rattle.columns.specs.declared.Sides.{Sides}
-use Rattle.goals.specs.Refusals.{Given, leftOf, rightOf, recordOf, Against, against, againstOf, first, sideRules}
-use Rattle.columns.specs.Calls.{Columns, put}
+use Rattle.columns.specs.declared.Opened.{Opened}
+use Rattle.goals.specs.Refusals.{Given, leftOf, rightOf, recordOf, Against, against, againstOf, first, sideRules, roomOf, runRefusal}
+use Rattle.columns.specs.Calls.{Columns, put, rowsIn}
 
 -- the columns have room for so many rows, of which so many are used
 pub record Fits (c : Columns) (n room : ℕ) : Type 0 where
@@ -82,6 +83,13 @@ pub record Prepares (g : Given) (r : Sides) : Type 0 where
   pub why : refusedBy (r .why) ≡ first (sideRules g)
   pub left : r .why .refusal .number ≡ 0 → r .left ≡ leftOf g
   pub right : r .why .refusal .number ≡ 0 → r .right ≡ rightOf g
+
+-- what run and trace begin with, of n rows lent: both sides and the room, or why not
+pub record Opens (g : Given) (n : ℕ) (c : Columns) (r : Run) (o : Opened) : Type 0 where
+  pub why : refusedBy (o .why) ≡ runRefusal g n (rowsIn c (r .used)) r
+  pub left : o .why .refusal .number ≡ 0 → o .left ≡ leftOf g
+  pub right : o .why .refusal .number ≡ 0 → o .right ≡ rightOf g
+  pub room : o .room ≡ roomOf n
 
 -- every row but row 0 has its parent below it, and so leads to row 0
 abbrev pub Rooted : List ℕ → ℕ → Type 0

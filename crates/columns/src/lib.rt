@@ -16,9 +16,9 @@ ghost use Rattle.bits.specs.Bit.{has};
 ghost use Rattle.effect.specs.Refusals.{rule, someBelow, front};
 ghost use Rattle.goals.specs.Goals.{row, eachMember, eachLetter, bad, enter, enterAll};
 ghost use Rattle.goals.specs.Run.{step, steps, run};
-ghost use Rattle.goals.specs.Refusals.{given, rowImpossible, impossible, against, againstOf, first};
+ghost use Rattle.goals.specs.Refusals.{given, roomOf, rowImpossible, impossible, against, againstOf, first};
 ghost use Rattle.columns.specs.Calls.{columns, rowAt, rowsIn, stateOf, Starts, Runs, Traces};
-ghost use Rattle.columns.specs.Core.{Fits, Enters, entering, lettered, Ready, Steps, Runnable, refusedBy, Prepares, Rooted, climb};
+ghost use Rattle.columns.specs.Core.{Fits, Enters, entering, lettered, Ready, Steps, Runnable, refusedBy, Prepares, Rooted, climb, Opens};
 
 // What start and run answer: the record of the run, or the refusal.
 pub enum Called {
@@ -37,6 +37,14 @@ struct Sides {
     why: SideRefusal,
     left: Side,
     right: Side,
+}
+
+// What run and trace begin with: both sides and the room, or why not.
+struct Opened {
+    why: SideRefusal,
+    left: Side,
+    right: Side,
+    room: usize,
 }
 
 // The letters of a call, worked out once: s signals, m instants on the left and k on the right, and for each side which
@@ -537,6 +545,42 @@ pub fn start_on(
     })
 }
 
+// What run and trace begin with, of n rows lent: refusals 1 to 14 of the sides, then 16 of the record and its rows.
+fn open_run(
+    ls: u8,
+    left: &[u32],
+    rs: u8,
+    right: &[u32],
+    n: usize,
+    places: &[u8],
+    sets: &[u64],
+    parents: &[u16],
+    letters: &[u16],
+    run: Run,
+) -> Opened
+    requires { ⌜ Fits (columns (now places) (now sets) (now parents) (now letters)) 0 (roomOf n) ⌝ }
+    ensures { λ r. ⌜ Opens (given ls (now (left .entry)) rs (now (right .entry))) n (columns (now (places .entry)) (now (sets .entry)) (now (parents .entry)) (now (letters .entry))) run r ⌝ }
+{
+    let prepared = sides_of(ls, left, rs, right);
+    let on_left = prepared.left;
+    let on_right = prepared.right;
+    let room = goals::room_of(n);
+    let m = on_left.count;
+    let k = on_right.count;
+    let mut why = prepared.why;
+    if why.refusal.number == 0 {
+        if is_impossible(places, sets, parents, letters, room, ls, m, k, run) {
+            why = both(16);
+        }
+    }
+    Opened {
+        why: why,
+        left: on_left,
+        right: on_right,
+        room: room,
+    }
+}
+
 // Goes on with a run for at most `budget` steps.
 pub fn run_on(
     ls: u8,
@@ -553,28 +597,20 @@ pub fn run_on(
 ) -> Called
     ensures { λ r. ⌜ Runs (given ls (now (left .entry)) rs (now (right .entry))) lent (columns (now (places .entry)) (now (sets .entry)) (now (parents .entry)) (now (letters .entry))) run budget r (columns (now (places .exit)) (now (sets .exit)) (now (parents .exit)) (now (letters .exit))) ⌝ }
 {
-    let prepared = sides_of(ls, left, rs, right);
-    let why = prepared.why;
+    let n = goals::shortest(lent, places.len(), sets.len(), parents.len(), letters.len());
+    let opened = open_run(ls, left, rs, right, n, places, sets, parents, letters, run);
+    let why = opened.why;
     if why.refusal.number != 0 {
         return Called::Refused(why);
-    }
-    let on_left = prepared.left;
-    let on_right = prepared.right;
-    let rows = goals::shortest(lent, places.len(), sets.len(), parents.len(), letters.len());
-    let room = goals::room_of(rows);
-    let m = on_left.count;
-    let k = on_right.count;
-    if is_impossible(places, sets, parents, letters, room, ls, m, k, run) {
-        return Called::Refused(both(16));
     }
     let next = run_sides(
         places,
         sets,
         parents,
         letters,
-        room,
-        on_left,
-        on_right,
+        opened.room,
+        opened.left,
+        opened.right,
         run,
         budget,
     );
@@ -627,19 +663,11 @@ pub fn trace_on(
 ) -> Tracing
     ensures { λ r. ⌜ Traces (given ls (now (left .entry)) rs (now (right .entry))) lent (columns (now (places .entry)) (now (sets .entry)) (now (parents .entry)) (now (letters .entry))) run (now (out .entry)) r (now (out .exit)) ⌝ }
 {
-    let prepared = sides_of(ls, left, rs, right);
-    let why = prepared.why;
+    let n = goals::shortest(lent, places.len(), sets.len(), parents.len(), letters.len());
+    let opened = open_run(ls, left, rs, right, n, places, sets, parents, letters, run);
+    let why = opened.why;
     if why.refusal.number != 0 {
         return Tracing::Refused(why);
-    }
-    let on_left = prepared.left;
-    let on_right = prepared.right;
-    let rows = goals::shortest(lent, places.len(), sets.len(), parents.len(), letters.len());
-    let room = goals::room_of(rows);
-    let m = on_left.count;
-    let k = on_right.count;
-    if is_impossible(places, sets, parents, letters, room, ls, m, k, run) {
-        return Tracing::Refused(both(16));
     }
     if run.outcome != 2 {
         return Tracing::Refused(both(17));
