@@ -10,7 +10,9 @@ print is made here and never taken from the program.
     runs.py named INPUT EXPECTED               the named vectors
     runs.py more INPUT EXPECTED                more of them: refusals, forged rows and records
     runs.py large INPUT EXPECTED               more of them, large tables and many rows
+    runs.py sides INPUT EXPECTED               more of them: sides that no table made, and refusal 24
     runs.py random SEED COUNT INPUT EXPECTED   COUNT random records, the same for the same SEED
+    runs.py forged SEED COUNT INPUT EXPECTED   the same with sides that no table made
     runs.py verdicts SEED COUNT                no vectors: COUNT random pairs, run to the verdict
 
 With `rows` before the other words every call is made on a table of rows and not on columns; what must
@@ -32,6 +34,9 @@ each column is. Each call is four numbers of eight digits:
     05000000 FROM TO 0              no call: the rows from FROM on, below TO, become what the row before is
     06000000 LENT(16) 0             no call: from here on so many rows are lent
     07000000 FROM TO 0              no call: shows the rows from FROM on, below TO
+    0bFF0SJJ VALUE(16) 0            no call: forges number F of the left (S = 0) or the right side: s, count,
+                                    accepting places, or present mask, absent mask or follow set of place J
+    0cNN000S 0 0 0                  no call: forges why there are no sides: number N, naming left, right or both
 
 Start, run and trace are made on the columns; with 08, 09 and 0a for 00, 01 and 02 they are made on a
 table of rows, which has what is lent in every column and no more than 65,536 rows.
@@ -92,6 +97,82 @@ def comparison(ls, left, rs, right):
     if ls != rs:
         raise Refused('both', 14)
     return accepted(ls, tuple(left), tuple(right))
+
+
+# ---- sides that no table made. A call may be handed both sides by value, and anybody can make such a value: it is
+# refused by why there are no sides, if that says so; else left 24, right 24, 14; and else used as its numbers say.
+
+NUMBERS = 's', 'count', 'accepts', 'present', 'absent', 'follow'  # of a side, in the order in which a record names them
+BY_PLACE = NUMBERS[3:]  # 64 of each
+
+
+class Numbers:
+    """A side by its numbers; at first the side of nothing."""
+
+    def __init__(self, side=None):
+        self.s = self.count = self.accepts = 0
+        self.present, self.absent, self.follow = [0] * 64, [0] * 64, [0] * 64
+        if side:
+            self.s, self.count, self.accepts = side.s, len(side.instants), number_of(side.accepts)
+            for j, (present, absent) in side.instants.items():
+                self.present[j], self.absent[j] = number_of(present), number_of(absent)
+            for j, members in side.follow.items():
+                self.follow[j] = number_of(members)
+
+    def clauses_of_24(self):
+        """Each clause of 24 that applies, by its words."""
+        above = [j for j in range(64) if j > self.count]
+        clauses = {
+            's is above 8': self.s > 8,
+            'the instant count is above 63': self.count > 63,
+            'the accepting set names a place above that count': any(self.accepts & 2 ** j for j in above),
+            'a follow set names 0': any(members & 1 for members in self.follow),
+            'a follow set names a place above it': any(members & 2 ** j for members in self.follow for j in above),
+        }
+        return {clause for clause, applies in clauses.items() if applies}
+
+    def matching(self, letter):
+        """A letter has no signal of number s or above: one named present never matches, one named absent never hinders."""
+        return {j for j in range(1, self.count + 1) if self.present[j] & ~letter == 0 and self.absent[j] & letter == 0}
+
+
+class ByNumbers(Comparison):
+    def __init__(self, left, right):
+        self.s, self.m, self.k = left.s, left.count, right.count
+        self.matching = [(left.matching(x), right.matching(x)) for x in range(2 ** self.s)]
+        self.left, self.right = Places(left), Places(right)
+
+
+class Places:
+    """The accepting places and follow sets of a side's numbers, as sets."""
+
+    def __init__(self, numbers):
+        self.accepts, self.follow = places_in(numbers.accepts), [places_in(members) for members in numbers.follow]
+
+
+class Asked:
+    """Both sides by value as they are made of two tables, or why there are none and two sides of nothing."""
+
+    def __init__(self, sides):
+        try:
+            c = comparison(*sides)
+            self.why, self.left, self.right = None, Numbers(c.left), Numbers(c.right)
+        except Refused as refused:
+            self.why, self.left, self.right = refused.args, Numbers(), Numbers()
+
+    def judged(self):
+        if self.why:
+            raise Refused(*self.why)
+        for name, side in ('left', self.left), ('right', self.right):
+            if side.clauses_of_24():
+                raise Refused(name, 24)
+        if self.left.s != self.right.s:
+            raise Refused('both', 14)
+        return ByNumbers(self.left, self.right)
+
+
+def judged(sides):
+    return sides.judged() if isinstance(sides, Asked) else comparison(*sides)
 
 
 # ---- rows and the run record
@@ -166,7 +247,7 @@ def clauses_of_16(c, rows, room, run):
 
 
 def start(sides, lent, rows, run):
-    comparison(*sides)
+    judged(sides)
     if rows.room(lent) == 0:
         raise Refused('both', 15)
     rows[0] = ROW_0
@@ -175,7 +256,7 @@ def start(sides, lent, rows, run):
 
 
 def possible(sides, lent, rows, run):
-    c = comparison(*sides)
+    c = judged(sides)
     if clauses_of_16(c, rows, rows.room(lent), run):
         raise Refused('both', 16)
     return c
@@ -385,7 +466,7 @@ class Record:
     def start(self, expect=None):
         self.no_call(self.head(0) + '000000')
         self.printed.append(self.call('start', expect, start))
-        self.by_start = self.by_start or 'refused' not in self.printed[-1]
+        self.by_start = not isinstance(self.sides, Asked) and (self.by_start or 'refused' not in self.printed[-1])
         return self
 
     def run(self, budget, expect=None):
@@ -418,6 +499,26 @@ class Record:
             column[start:end] = column[start - 1:start] * len(column[start:end])
         return self.no_call('05000000', start, end)
 
+    def forged_sides(self):
+        self.by_start = False
+        if not isinstance(self.sides, Asked):
+            self.sides = Asked(self.sides)
+        return self.sides
+
+    def forge_side(self, name, number, value, place=0):
+        side = getattr(self.forged_sides(), name)
+        if number in BY_PLACE:
+            getattr(side, number)[place] = value
+        else:
+            setattr(side, number, value)
+        head = '0b%02x%02x%02x' % (NUMBERS.index(number), name == 'right', place)
+        return self.no_call(head, value // 2 ** 32, value % 2 ** 32)
+
+    def forge_why(self, side, number):
+        """Number 0 is no refusal, whichever side it names."""
+        self.forged_sides().why = (side, number) if number else None
+        return self.no_call('0c%02x%04x' % (number, ('left', 'right', 'both').index(side) + 1))
+
     def lend(self, lent):
         self.lent = lent
         return self.no_call('06000000', lent // 2 ** 32, lent % 2 ** 32)
@@ -435,7 +536,7 @@ class Vectors(sheets.Vectors):
 
     def __init__(self):
         super().__init__()
-        self.clauses = set()  # of refusal 16, that a vector forged
+        self.clauses = set()  # of refusals 16 and 24, that a vector forged
 
     def record(self, sides, lengths, lent=EVERY):
         return Record(self, sides, lengths, lent)
@@ -623,7 +724,7 @@ def named():
     for section in (comparisons, budgets, nothing_changes, no_room, order, lent_rows, tables_of_rows, traces):
         section(v)
     v.title('a call that is none')
-    r = v.started('C1', 1).no_call('0b000000').no_call('0200%04x' % (LONGEST_TRACE + 1))
+    r = v.started('C1', 1).no_call('0d000000').no_call('0200%04x' % (LONGEST_TRACE + 1))
     r.printed += ['bad call'] * 2
     r.run(1, (1, 1, INCLUDED)).save()
     v.title('a record that says more than it has ends the run')
@@ -759,6 +860,88 @@ def two_of_both(v):
     v.title('17 before 18: open, included, no room; then 18')
     (v.started('C9', 4).run(2, (2, 3, 0)).trace(0, 17).trace(9, 17).forge(3, 3, INCLUDED).trace(0, 17)
      .forge(2, 3, NO_ROOM).trace(0, 17).forge(2, 3, REFUTED).trace(0, 18).trace(1, 18).trace(2, [1, 0]).show(0, 4).save())
+
+
+# s = 1, {D} . {} against {D}* . {}; included, by 4 goals
+BY_VALUE = (1, [D, ANY, sequence(0, 1)], 1, [D, repetition(0), ANY, sequence(1, 2)])
+
+
+def forged_side(v, title, clauses, *numbers):
+    """A side of BY_VALUE with these numbers forged, the left and then the right: all calls refuse by 24 for these clauses and
+    no other, naming the side, or none does for its sides."""
+    for name in 'left', 'right':
+        v.title('%s, %s' % (title, name))
+        r = v.record(BY_VALUE, 9).start(STARTED)
+        for number, value, *place in numbers:
+            r.forge_side(name, number, value, *place)
+        assert getattr(r.forged_sides(), name).clauses_of_24() == set(clauses), title
+        v.clauses |= set(clauses)
+        if clauses:
+            r.start((name, 24)).run(9, (name, 24)).trace(1, (name, 24)).show(0, 2).save()
+        else:
+            r.run(9).trace(3).show(0, 9).start(STARTED).run(1).run(9).save()
+
+
+def sides_impossible(v):
+    """Refusal 24, clause by clause and at its bounds."""
+    k = 2  # instants on either side
+    forged_side(v, 'possible: as the table made it', [])
+    forged_side(v, 's is 9', ['s is above 8'], ('s', 9))
+    forged_side(v, 's is 255', ['s is above 8'], ('s', 255))
+    forged_side(v, 'possible: the count is 63', [], ('count', 63))
+    forged_side(v, 'the count is 64', ['the instant count is above 63'], ('count', 64))
+    forged_side(v, 'the count is 255', ['the instant count is above 63'], ('count', 255))
+    forged_side(v, 'possible: every place accepts', [], ('accepts', 2 ** (k + 1) - 1))
+    for j in k + 1, 32, 63:
+        forged_side(v, 'place %d accepts' % j, ['the accepting set names a place above that count'], ('accepts', 2 ** j))
+        forged_side(v, 'place %d follows the start' % j, ['a follow set names a place above it'], ('follow', 2 ** j, 0))
+        forged_side(v, 'place %d follows place 63' % j, ['a follow set names a place above it'], ('follow', 2 ** j, 63))
+    forged_side(v, 'possible: every place follows every place', [], *[('follow', 2 ** (k + 1) - 2, j) for j in range(64)])
+    for j in 0, 1, 63:
+        forged_side(v, 'the start follows place %d' % j, ['a follow set names 0'], ('follow', 1, j))
+    forged_side(v, 'possible: the count is 63 and place 63 accepts and follows', [], ('count', 63), ('accepts', 2 ** 63),
+                ('follow', 2 ** 63, 0))
+    forged_side(v, 'the count is 1: what accepts and follows is above it',
+                ['the accepting set names a place above that count', 'a follow set names a place above it'], ('count', 1))
+
+
+def masks_of_any_kind(v):
+    """24 says nothing of masks. A letter has no signal of number s or above."""
+    for number, words in ('present', 'never matches'), ('absent', 'never hinders'):
+        for signal in 1, 8, 15:
+            forged_side(v, 'place 1 names signal %d %s, which %s' % (signal, number, words), [], (number, 2 ** signal + 1, 1))
+    forged_side(v, 'masks of no place', [], *[(number, 65535, j) for number in ('present', 'absent') for j in (0, 3, 63)])
+    v.title('a present signal that no letter has: the left has no trace, and is included in nil')
+    v.pair((1, [D], [nil()]), 4).forge_side('left', 'present', 3, 1).start(STARTED).run(9, (1, 1, INCLUDED)).show(0, 3).save()
+    v.title('an absent signal that no letter has: as if it were not named')
+    (v.pair((1, [D], [D]), 4).forge_side('left', 'absent', 65534, 1).start(STARTED).run(9, (2, 2, INCLUDED))
+     .show(0, 3).save())
+
+
+def order_of_24(v):
+    v.title('24 of the left before 24 of the right, before 14, before 15 and 16')
+    (v.record(BY_VALUE, 3, lent=0).forge_side('right', 's', 9).start(('right', 24)).run(1, ('right', 24)).trace(0, ('right', 24))
+     .forge_side('left', 'count', 64).start(('left', 24)).run(1, ('left', 24)).trace(0, ('left', 24)).show(0, 3).save())
+    v.title('14 before 15 and 16')
+    v.record(BY_VALUE, 3, lent=0).forge_side('left', 's', 2).start(14).run(1, 14).trace(0, 14).show(0, 3).save()
+    v.title('why there are no sides comes before 24 and 14, whatever its number, and 0 is none')
+    r = v.record(BY_VALUE, 3).forge_side('left', 's', 9)
+    for side, number in ('right', 7), ('both', 14), ('left', 1), ('both', 255):
+        r.forge_why(side, number).start((side, number)).run(1, (side, number)).trace(0, (side, number))
+    r.forge_why('left', 0).start(('left', 24)).forge_side('left', 's', 1).start(STARTED).run(9).show(0, 3).save()
+    v.title('refused tables make two sides of nothing: with no reason why, these are compared')
+    for sides in (1, [M], 1, [D]), (1, [D], 1, [M]), (1, [D], 2, [D]), (9, [D], 9, [D]):
+        v.record(sides, 3).forge_why('both', 0).start(STARTED).run(9, (1, 1, INCLUDED)).show(0, 3).save()
+
+
+def by_value():
+    v = Vectors()
+    for section in (sides_impossible, masks_of_any_kind, order_of_24):
+        section(v)
+    assert len(v.clauses) == 5
+    for name in 'start', 'run', 'trace':
+        assert {(name, 24), (name, 14)} <= v.seen, name
+    return v
 
 
 def more():
@@ -1014,6 +1197,45 @@ def random_record(pick, v):
     r.save()
 
 
+def random_number(pick, side):
+    """A number of a side, that is mostly possible: its name, its value and its place."""
+    number = pick.choice(['s', 'count', 'accepts', *2 * ['present', 'absent'], *3 * ['follow']])
+    some = sum(2 ** j for j in range(side.count + 1) if pick.random() < 0.5)
+    stray = 2 ** pick.randrange(64) if pick.random() < 0.04 else 0
+    value = {
+        's': pick.choice([side.s, side.s, side.s, pick.randint(0, 9)]),
+        'count': min(255, max(0, side.count + pick.choice([0, 1, 1, 2, -1, 60]))),
+        'accepts': some | stray,
+        'follow': some & ~1 | stray,
+    }.get(number, pick.choice([pick.randrange(2 ** side.s), pick.randrange(2 ** 16)]))
+    return number, value, pick.choice([pick.randint(0, side.count), pick.randrange(64)]) if number in BY_PLACE else 0
+
+
+def random_forged(pick, v):
+    """Sides of two tables with some numbers forged, run to an end."""
+    s, left, right = random_pair(pick)
+    rows = pick.choice([4, 10, 100, 300])
+    r = v.record((s, left, s, right), rows)
+    for _ in range(pick.randint(1, 6)):
+        name = pick.choice(['left', 'right'])
+        r.forge_side(name, *random_number(pick, getattr(r.forged_sides(), name)))
+    r.start()
+    for budget in pick.randint(0, 3), EVERY:
+        r.run(budget)
+    r.trace(pick.choice([0, 3, 40])).show(0, min(rows, r.state.used + 2)).save()
+    return r.state.outcome
+
+
+def random_forged_vectors(seed, count):
+    pick, v = random.Random(seed), Vectors()
+    v.title('%d random records of forged sides, of seed %d' % (count, seed))
+    ended = [random_forged(pick, v) for _ in range(count)]
+    for outcome in INCLUDED, REFUTED:  # a fair part of each, or the sides are of no use
+        assert 10 * ended.count(outcome) > count, (outcome, ended.count(outcome))
+    assert ('run', 24) in v.seen and ('run', 14) in v.seen
+    return v
+
+
 def random_vectors(seed, count):
     pick, v = random.Random(seed), Vectors()
     v.title('%d random records of seed %d' % (count, seed))
@@ -1039,11 +1261,12 @@ def verdicts(seed, count):
 def main(words):
     if words[:1] == ['rows']:
         Vectors.on_rows, words = True, words[1:]
-    makers = {'named': named, 'more': more, 'large': large}
+    makers = {'named': named, 'more': more, 'large': large, 'sides': by_value}
+    by_seed = {'random': random_vectors, 'forged': random_forged_vectors}
     if len(words) == 3 and words[0] in makers:
         makers[words[0]]().save(*words[1:])
-    elif len(words) == 5 and words[0] == 'random':
-        random_vectors(int(words[1]), int(words[2])).save(*words[3:])
+    elif len(words) == 5 and words[0] in by_seed:
+        by_seed[words[0]](int(words[1]), int(words[2])).save(*words[3:])
     elif len(words) == 3 and words[0] == 'verdicts':
         verdicts(int(words[1]), int(words[2]))
     else:

@@ -167,14 +167,14 @@ module _ (c : Columns) (room : ℕ) (left right : Side) (r : Run) (g : Runnable 
 
   -- with the letters worked out for both sides it can take a step
   pub run-ready : (on-left on-right : Naming) → on-left ≡ namingOf left → on-right ≡ namingOf right → (r .outcome ≡ 1 → ⊥)
-      → Ready c room left right (record { s = left .s; m = left .count; k = right .count; left = on-left; right = on-right }) r
+      → Ready c room left right (record { s = left .s; left = on-left; right = on-right }) r
   run-ready on-left on-right e f h = record {
     fits = g .fits;
     left-over = g .unsettled h;
     few = g .few;
     signals = refl;
-    on-left = λ x l. ap (λ (n : Naming). matchingBy n (left .s) (left .count) x) e ∙ g .on-left x l;
+    on-left = λ x l. ap (λ (n : Naming). matchingBy n (left .s) x) e ∙ g .on-left x l;
     on-right = λ x l.
-        ap₂ (λ (n : Naming) (s : ℕ). matchingBy n s (right .count) x) f (sym (g .signals))
+        ap₂ (λ (n : Naming) (s : ℕ). matchingBy n s x) f (sym (g .signals))
         ∙ g .on-right x (subst (λ (s : ℕ). x < 2 ^ s) (sym (g .signals)) l);
   }

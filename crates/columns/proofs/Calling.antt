@@ -9,28 +9,26 @@ use lib.Dec.{eqb, ltb}
 use lib.ListN.{length, getD, set}
 use lib.Pow.{pow-mono}
 use borrow.Author.Tests.{eq-eqb, ne-eqb, lt-ltb, le-ltb}
-use Rattle.effect.specs.declared.Node.{Node}
-use Rattle.effect.specs.Node.{decodings, nodesOf}
 use Rattle.effect.specs.Refusals.{rule, front}
-use Rattle.effect.specs.WellFormed.{WellFormed}
+use Rattle.effect.proofs.Laws.{rule-none}
 use Rattle.effect.proofs.Front.{front-next}
 use Rattle.places.specs.declared.Side.{Side}
-use Rattle.places.specs.Side.{sideOf}
 use Rattle.places.proofs.Matched.{matched}
 use Rattle.goals.specs.declared.Row.{Row}
 use Rattle.goals.specs.declared.Run.{Run}
 use Rattle.goals.specs.declared.SideRefusal.{SideRefusal}
-use Rattle.columns.specs.declared.Sides.{Sides}
-use Rattle.columns.specs.declared.Opened.{Opened}
+use Rattle.asking.specs.declared.Asked.{Asked}
+use Rattle.asking.specs.Asked.{named, askedRules, whyNot, startRefusalOn, runRefusalOn, traceRefusalOn, runAfterOn}
+use Rattle.asking.proofs.Refusing.{first-here, first-skip, first-none, first-more, first-past, first-parts, sided, leaves-refused}
+use Rattle.asking.proofs.Asking.{handed, sides-refused, sides-passed, why-none, Able, able}
 use Rattle.columns.specs.declared.Called.the-variants as called-variants
 use Rattle.columns.specs.declared.Tracing.the-variants as tracing-variants
 use Rattle.goals.specs.Run.{State, started, run, traceOf}
-use Rattle.goals.specs.Refusals.{Given, leftOf, roomOf, recordOf, impossible, impossibleFor, Against, against, againstOf, first, sideRules, refusalOf, startRefusal, runRefusal, traceRefusal, exit, leaves, valuesOf, runAfter}
+use Rattle.goals.specs.Refusals.{roomOf, recordOf, impossible, Against, against, againstOf, first, refusalBy, startRules, exit, leaves, valuesOf}
 use Rattle.columns.specs.Calls.{Columns, columns, rowsIn, lentIn, stateOf, called, tracing, Starts, Runs, Traces}
-use Rattle.columns.specs.Core.{Fits, Prepares, Opens, Matchable, Runnable, Steps, Rooted, climb}
+use Rattle.columns.specs.Core.{Fits, Runnable, Steps, Rooted, climb}
 use Rattle.columns.proofs.Possible.{Possible, possible}
 use Rattle.columns.proofs.Climbing.{climb-word}
-use Rattle.columns.proofs.Refusing.{first-here, first-skip, first-more, first-past, first-parts, refused-some, refused-none, refused-named, leaves-refused, sides-refused, sides-passed, both-formed}
 
 -- a call that has a refusal leaves all as it was
 refused-reply : {Lent : Type 0} (w why : Against) (values : List ℕ) (changed lent : Lent) → w ≡ why → (w .number ≡ 0 → ⊥)
@@ -63,35 +61,26 @@ pub record Traceable (c : Columns) (r : Run) : Type 0 where
   pub bytes : (i : ℕ) → i < r .used → getD (c .letters) i 0 < 256
   pub word : traceOf (rowsIn c (r .used)) (r .settled) ≡ climb (c .parents) (c .letters) (r .settled) (r .settled)
 
--- the sides of accepted tables
-signals-are : (s : ℕ) (t : List Node) → sideOf s t .s ≡ s
-unfolding sideOf
-signals-are s t = refl
-
-lettered-side : (s : ℕ) (ns : List ℕ) → WellFormed s (decodings ns) → Matchable (sideOf s (nodesOf (decodings ns)))
-unfolding sideOf
-lettered-side s ns w x l = matched s (decodings ns) w x l
-
-module _ (g : Given) (sd : Sides) (p : Prepares g sd) (lent : ℕ) (c : Columns) where
+module _ (a : Asked) (lent : ℕ) (c : Columns) (why : SideRefusal) (e : why ≡ whyNot a) where
   -- ---- start
-  pub start-sides : (sd .why .refusal .number ≡ 0 → ⊥) → Starts g lent c (called-variants.Refused (sd .why)) c
-  unfolding called startRefusal
-  start-sides h = refused-reply _ _ _ _ _ (sides-refused g sd p h (rule 15 (eqb (lentIn lent c) 0) ∷ [])) h
+  pub start-sides : (why .refusal .number ≡ 0 → ⊥) → Starts a lent c (called-variants.Refused why) c
+  unfolding called startRefusalOn
+  start-sides h = refused-reply _ _ _ _ _ (handed a (startRules (lentIn lent c)) why (sides-refused a why e h (startRules (lentIn lent c))) h) h
 
-  module _ (z : sd .why .refusal .number ≡ 0) where
-    pub start-none : (why : SideRefusal) → againstOf why ≡ against 3 15 → lentIn lent c ≡ 0 → Starts g lent c (called-variants.Refused why) c
-    unfolding called startRefusal
-    start-none why e h =
+  module _ (z : why .refusal .number ≡ 0) where
+    pub start-none : (w : SideRefusal) → w ≡ named (against 3 15) → lentIn lent c ≡ 0 → Starts a lent c (called-variants.Refused w) c
+    unfolding called startRefusalOn
+    start-none w k h =
         refused-reply _ _ _ _ _
-        (e ∙ sym (sides-passed g sd p z (rule 15 (eqb (lentIn lent c) 0) ∷ []) ∙ applies 14 _ [] (eq-eqb _ _ h)))
-        (λ q. omega (arith, sym (ap (λ (x : Against). x .number) e) ∙ q))
+        (ap againstOf k ∙ sided 15 .2 ∙ sym (sides-passed a why e z (startRules (lentIn lent c)) ∙ applies 14 _ [] (eq-eqb _ _ h)))
+        (λ q. omega (arith, sym (ap (λ (x : SideRefusal). x .refusal .number) k) ∙ q))
 
-    start-passed : (lentIn lent c ≡ 0 → ⊥) → against 0 0 ≡ startRefusal g (lentIn lent c)
-    unfolding startRefusal
-    start-passed h = sym (sides-passed g sd p z (rule 15 (eqb (lentIn lent c) 0) ∷ []) ∙ not-applies 15 _ [] (ne-eqb _ _ h) ∙ none-left)
+    start-passed : (lentIn lent c ≡ 0 → ⊥) → against 0 0 ≡ startRefusalOn a (lentIn lent c)
+    unfolding startRefusalOn
+    start-passed h = sym (sides-passed a why e z (startRules (lentIn lent c)) ∙ not-applies 15 _ [] (ne-eqb _ _ h) ∙ none-left)
 
     pub start-done : (lentIn lent c ≡ 0 → ⊥)
-        → Starts g lent c (called-variants.Accepted (record { settled = 0; used = 1; outcome = 0 })) (columns (set (c .places) 0 0) (set (c .sets) 0 1) (set (c .parents) 0 0) (set (c .letters) 0 0))
+        → Starts a lent c (called-variants.Accepted (record { settled = 0; used = 1; outcome = 0 })) (columns (set (c .places) 0 0) (set (c .sets) 0 1) (set (c .parents) 0 0) (set (c .letters) 0 0))
     unfolding called
     start-done h =
         (λ i. exit (record { refusal = against 0 0; values = valuesOf (recordOf started) })
@@ -101,52 +90,28 @@ module _ (g : Given) (sd : Sides) (p : Prepares g sd) (lent : ℕ) (c : Columns)
         one : (l : List ℕ) (x : ℕ) → 0 < length l → set l 0 x ≡ front (x ∷ []) l
         one l x k = front-next [] l 0 x refl k
 
--- ---- run and trace: what both begin with
-module _ (g : Given) (n : ℕ) (c : Columns) (r : Run) where
+-- ---- run and trace: what both refuse
+module _ (a : Asked) (n : ℕ) (c : Columns) (r : Run) where
   abbrev rows : List Row
   rows = rowsIn c (r .used)
 
-  -- 16
-  abbrev sixteen : ℕ
-  sixteen = rule 16 (impossibleFor g n rows r)
+  -- 16 for the two sides
+  abbrev pub impossibleOn : Bool
+  impossibleOn = impossible (a .left .s) (a .left .count) (a .right .count) (roomOf n) rows r
 
-  -- opened: refused for a side, refused for 16, or not
-  module _ (sd : Sides) (p : Prepares g sd) (room : ℕ) (e : room ≡ roomOf n) where
-    abbrev opened-as : SideRefusal → Opened
-    opened-as why = record { why = why; left = sd .left; right = sd .right; room = room }
+  module _ (why : SideRefusal) (e : why ≡ whyNot a) where
+    pub refuses-sides : (why .refusal .number ≡ 0 → ⊥) → why ≡ named (runRefusalOn a n rows r)
+    unfolding runRefusalOn
+    refuses-sides h = sides-refused a why e h (rule 16 impossibleOn ∷ [])
 
-    pub opens-refused : (sd .why .refusal .number ≡ 0 → ⊥) → Opens g n c r (opened-as (sd .why))
-    unfolding runRefusal
-    opens-refused h =
-        record { why = refused-some (sd .why) h ∙ sides-refused g sd p h (sixteen ∷ []); left = p .left; right = p .right; room = e }
+    module _ (z : why .refusal .number ≡ 0) (b : Bool) (asked : b ≡ impossibleOn) where
+      pub refuses-16 : (w : SideRefusal) → w ≡ named (against 3 16) → b ≡ true → w ≡ named (runRefusalOn a n rows r)
+      unfolding runRefusalOn
+      refuses-16 w k h = k ∙ ap named (sym (sides-passed a why e z (rule 16 impossibleOn ∷ []) ∙ applies 15 _ [] (sym asked ∙ h)))
 
-    module _ (z : sd .why .refusal .number ≡ 0) where
-      -- 16 as the code asks it of the sides by value
-      impossible-is : impossibleFor g n rows r ≡ impossible (g .ls) (sd .left .count) (sd .right .count) room rows r
-      impossible-is = sym (λ i. impossible (g .ls) (p .left z i .count) (p .right z i .count) (e i) rows r)
-
-      module _ (b : Bool) (asked : b ≡ impossible (g .ls) (sd .left .count) (sd .right .count) room rows r) where
-        pub opens-impossible : (why : SideRefusal) → againstOf why ≡ against 3 16 → b ≡ true → Opens g n c r (opened-as why)
-        unfolding runRefusal
-        opens-impossible why k h =
-            record {
-              why = refused-named why 3 16 k ∙ sym (sides-passed g sd p z (sixteen ∷ []) ∙ applies 15 _ [] (impossible-is ∙ sym asked ∙ h));
-              left = λ _. p .left z;
-              right = λ _. p .right z;
-              room = e;
-            }
-
-        pub opens-possible : b ≡ false → Opens g n c r (opened-as (sd .why))
-        unfolding runRefusal
-        opens-possible h =
-            record {
-              why =
-                  refused-none (sd .why) z
-                  ∙ sym (sides-passed g sd p z (sixteen ∷ []) ∙ not-applies 16 _ [] (impossible-is ∙ sym asked ∙ h) ∙ none-left);
-              left = p .left;
-              right = p .right;
-              room = e;
-            }
+      pub refuses-none : b ≡ false → why ≡ named (runRefusalOn a n rows r)
+      unfolding runRefusalOn
+      refuses-none h = why-none a why e z ∙ ap named (sym (sides-passed a why e z (rule 16 impossibleOn ∷ []) ∙ not-applies 16 _ [] (sym asked ∙ h) ∙ none-left))
 
 -- the columns have the room of the rows that are lent in all of them
 pub fits-lent : (lent : ℕ) (c : Columns) (n room : ℕ) → room ≡ roomOf (lentIn lent c) → n ≤ room → Fits c n room
@@ -160,132 +125,115 @@ fits-lent lent c n room e h = record {
   letters = omega (arith, e);
 }
 
-module _ (g : Given) (lent : ℕ) (c : Columns) (r : Run) where
+module _ (a : Asked) (lent : ℕ) (c : Columns) (r : Run) (why : SideRefusal) (p : why ≡ named (runRefusalOn a (lentIn lent c) (rowsIn c (r .used)) r)) where
   abbrev used-rows : List Row
   used-rows = rowsIn c (r .used)
 
-  abbrev asked : ℕ
-  asked = sixteen g (lentIn lent c) c r
+  abbrev sixteen : ℕ
+  sixteen = rule 16 (impossibleOn a (lentIn lent c) c r)
 
-  -- what was opened
-  module _ (o : Opened) (p : Opens g (lentIn lent c) c r o) where
-    -- a refusal is the call's, whatever it asks besides
-    open-refused : (o .why .refusal .number ≡ 0 → ⊥) → (rest : List ℕ) → againstOf (o .why) ≡ refusalOf g (asked ∷ rest)
-    unfolding runRefusal
-    open-refused h rest =
-        let e = sym (refused-some (o .why) h) ∙ p .why in
-        e ∙ sym (first-more (sideRules g ++ (against 3 asked ∷ [])) (map (against 3) rest) (λ z. h (ap (λ (x : Against). x .number) e ∙ z)))
+  is-number : why .refusal .number ≡ first (askedRules a ++ (against 3 sixteen ∷ [])) .number
+  unfolding runRefusalOn
+  is-number = ap (λ (w : SideRefusal). w .refusal .number) p
 
-    module _ (z : o .why .refusal .number ≡ 0) where
-      abbrev sides : Sides
-      sides = record { why = o .why; left = o .left; right = o .right }
+  -- a refusal is the call's, whatever it asks besides
+  call-refused : (why .refusal .number ≡ 0 → ⊥) → (rest : List ℕ) → againstOf why ≡ refusalBy (askedRules a) (sixteen ∷ rest)
+  unfolding runRefusalOn
+  call-refused h rest =
+      handed a (sixteen ∷ []) why p h
+      ∙ sym (first-more (askedRules a ++ (against 3 sixteen ∷ [])) (map (against 3) rest) (λ z. h (is-number ∙ z)))
 
-      none : (first (sideRules g) .number ≡ 0) × (first (against 3 asked ∷ []) .number ≡ 0)
-      unfolding runRefusal
-      none = first-parts (sideRules g) (against 3 asked ∷ []) (ap (λ (x : Against). x .number) (sym (p .why) ∙ refused-none (o .why) z))
+  module _ (z : why .refusal .number ≡ 0) where
+    none : (first (askedRules a) .number ≡ 0) × (first (against 3 sixteen ∷ []) .number ≡ 0)
+    none = first-parts (askedRules a) (against 3 sixteen ∷ []) (sym is-number ∙ z)
 
-      prepared : Prepares g sides
-      prepared =
-          record {
-            why = refused-none (o .why) z ∙ sym (first-past (sideRules g) [] (none .0) ∙ none-left);
-            left = p .left;
-            right = p .right;
-          }
+    fine : Able a
+    fine = able a (none .0)
 
-      possible-for : impossibleFor g (lentIn lent c) used-rows r ≡ false
-      unfolding first
-      possible-for = go (impossibleFor g (lentIn lent c) used-rows r) (none .1)
-        where
-          go : (b : Bool) → first (against 3 (rule 16 b) ∷ []) .number ≡ 0 → b ≡ false
-          go true h = absurd (omega (arith, h))
-          go false h = refl
+    possible-for : impossibleOn a (lentIn lent c) c r ≡ false
+    possible-for = rule-none 15 _ .0 (first-none _ _ (none .1) .0)
 
-      open-passed : (rest : List ℕ) → refusalOf g (asked ∷ rest) ≡ first (map (against 3) rest)
-      open-passed rest = sides-passed g sides prepared z (asked ∷ rest) ∙ not-applies 16 _ rest possible-for
+    call-passed : (rest : List ℕ) → refusalBy (askedRules a) (sixteen ∷ rest) ≡ first (map (against 3) rest)
+    call-passed rest = first-past (askedRules a) (map (against 3) (sixteen ∷ rest)) (none .0) ∙ not-applies 16 _ rest possible-for
 
-      run-possible : Possible (g .ls) (o .room) c r
-      run-possible = possible (g .ls) (o .left .count) (o .right .count) (o .room) c r (sym (impossible-is g (lentIn lent c) c r sides prepared (o .room) (p .room) z) ∙ possible-for)
+    run-possible : Possible (a .left .s) (roomOf (lentIn lent c)) c r
+    run-possible = possible (a .left .s) (a .left .count) (a .right .count) (roomOf (lentIn lent c)) c r possible-for
 
-      fits-used : Fits c (r .used) (o .room)
-      fits-used = fits-lent lent c (r .used) (o .room) (p .room) (run-possible .counts .within)
+    fits-used : Fits c (r .used) (roomOf (lentIn lent c))
+    fits-used = fits-lent lent c (r .used) (roomOf (lentIn lent c)) refl (run-possible .counts .within)
 
-      pub runnable : Runnable c (o .room) (o .left) (o .right) r
-      runnable =
-          let w = both-formed g sides prepared z in
-          subst (λ (l : Side). Runnable c (o .room) l (o .right) r) (sym (p .left z))
-          (subst (λ (k : Side). Runnable c (o .room) (leftOf g) k r) (sym (p .right z))
-          (record {
-            fits = fits-used;
-            unsettled = run-possible .counts .unsettled;
-            few = omega (arith, w .0 .signals, signals-are (g .ls) (nodesOf (decodings (g .left))));
-            signals = signals-are (g .rs) (nodesOf (decodings (g .right))) ∙ sym (w .2) ∙ sym (signals-are (g .ls) (nodesOf (decodings (g .left))));
-            on-left = lettered-side (g .ls) (g .left) (w .0);
-            on-right = lettered-side (g .rs) (g .right) (w .1);
-          }))
+    pub runnable : (room : ℕ) → room ≡ roomOf (lentIn lent c) → Runnable c room (a .left) (a .right) r
+    runnable room e = subst (λ (m : ℕ). Runnable c m (a .left) (a .right) r) (sym e) (record {
+      fits = fits-used;
+      unsettled = run-possible .counts .unsettled;
+      few = omega (arith, fine .signals);
+      signals = sym (fine .same);
+      on-left = matched (a .left) (omega (arith, fine .signals)) (fine .few-left);
+      on-right = matched (a .right) (omega (arith, fine .signals, fine .same)) (fine .few-right);
+    })
 
-      pub traceable : r .outcome ≡ 2 → Traceable c r
-      traceable refuted =
-          let q = run-possible in
-          let row : r .settled < r .used = q .counts .unsettled (λ k. omega (arith, sym refuted ∙ k)) in
-          record {
-            row = row;
-            few = le-trans (q .counts .within) (fits-used .small);
-            parents = le-trans (q .counts .within) (fits-used .parents);
-            letters = le-trans (q .counts .within) (fits-used .letters);
-            rooted = q .rooted;
-            bytes = λ i l. lt-of-lt-of-le (q .bytes i l) (pow-mono {i = g .ls} {j = 8} (both-formed g sides prepared z .0 .signals));
-            word = climb-word c (r .used) (r .settled) (q .rooted) row;
-          }
+    pub traceable : r .outcome ≡ 2 → Traceable c r
+    traceable refuted =
+        let q = run-possible in
+        let row : r .settled < r .used = q .counts .unsettled (λ k. omega (arith, sym refuted ∙ k)) in
+        record {
+          row = row;
+          few = le-trans (q .counts .within) (fits-used .small);
+          parents = le-trans (q .counts .within) (fits-used .parents);
+          letters = le-trans (q .counts .within) (fits-used .letters);
+          rooted = q .rooted;
+          bytes = λ i l. lt-of-lt-of-le (q .bytes i l) (pow-mono {i = a .left .s} {j = 8} (fine .signals));
+          word = climb-word c (r .used) (r .settled) (q .rooted) row;
+        }
 
-    -- ---- run
-    module _ (budget : ℕ) where
-      pub run-refused : (o .why .refusal .number ≡ 0 → ⊥) → Runs g lent c r budget (called-variants.Refused (o .why)) c
-      unfolding called runRefusal
-      run-refused h = refused-reply _ _ _ _ _ (open-refused h []) h
+  -- ---- run
+  module _ (budget : ℕ) where
+    pub run-refused : (why .refusal .number ≡ 0 → ⊥) → Runs a lent c r budget (called-variants.Refused why) c
+    unfolding called runRefusalOn
+    run-refused h = refused-reply _ _ _ _ _ (call-refused h []) h
 
-      -- the run on the sides by value is the run on those that were given
-      pub run-done : o .why .refusal .number ≡ 0 → (c′ : Columns) (w : Run) → Steps c c′ (run (o .left) (o .right) (o .room) budget (stateOf c r)) w
-          → Runs g lent c r budget (called-variants.Accepted w) c′
-      unfolding called runRefusal runAfter
-      run-done z c′ w h =
-          let st = subst (λ (s : State). Steps c c′ s w) (λ i. run (p .left z i) (p .right z i) (p .room i) budget (stateOf c r)) h in
-          (λ i. exit (record { refusal = against 0 0; values = valuesOf (st .now i) }) (st .columns i)) ∙ done-reply _ _ _ _ (sym (open-passed z [] ∙ none-left))
+    pub run-done : why .refusal .number ≡ 0 → (room : ℕ) → room ≡ roomOf (lentIn lent c) → (c′ : Columns) (w : Run) → Steps c c′ (run (a .left) (a .right) room budget (stateOf c r)) w
+        → Runs a lent c r budget (called-variants.Accepted w) c′
+    unfolding called runRefusalOn runAfterOn
+    run-done z room e c′ w h =
+        let st = subst (λ (s : State). Steps c c′ s w) (λ i. run (a .left) (a .right) (e i) budget (stateOf c r)) h in
+        (λ i. exit (record { refusal = against 0 0; values = valuesOf (st .now i) }) (st .columns i)) ∙ done-reply _ _ _ _ (sym (call-passed z [] ∙ none-left))
 
-    -- ---- trace
-    module _ (out : List ℕ) where
-      abbrev late : List ℕ
-      late = rule 18 (ltb (length out) (length (traceOf used-rows (r .settled)))) ∷ []
+  -- ---- trace
+  module _ (out : List ℕ) where
+    abbrev late : List ℕ
+    late = rule 18 (ltb (length out) (length (traceOf used-rows (r .settled)))) ∷ []
 
-      abbrev middle : List ℕ
-      middle = rule 17 (not (eqb (r .outcome) 2)) ∷ late
+    abbrev middle : List ℕ
+    middle = rule 17 (not (eqb (r .outcome) 2)) ∷ late
 
-      pub trace-refused : (o .why .refusal .number ≡ 0 → ⊥) → Traces g lent c r out (tracing-variants.Refused (o .why)) out
-      unfolding tracing traceRefusal
-      trace-refused h = refused-reply _ _ _ _ _ (open-refused h middle) h
+    pub trace-refused : (why .refusal .number ≡ 0 → ⊥) → Traces a lent c r out (tracing-variants.Refused why) out
+    unfolding tracing traceRefusalOn
+    trace-refused h = refused-reply _ _ _ _ _ (call-refused h middle) h
 
-      module _ (z : o .why .refusal .number ≡ 0) where
-        module _ (why : SideRefusal) where
-          later : (n : ℕ) → againstOf why ≡ against 3 (suc n) → first (map (against 3) middle) ≡ against 3 (suc n) → Traces g lent c r out (tracing-variants.Refused why) out
-          unfolding tracing traceRefusal
-          later n e q = refused-reply _ _ _ _ _ (e ∙ sym (open-passed z middle ∙ q)) (λ k. omega (arith, sym (ap (λ (x : Against). x .number) e) ∙ k))
+    module _ (z : why .refusal .number ≡ 0) where
+      module _ (w : SideRefusal) where
+        later : (n : ℕ) → w ≡ named (against 3 (suc n)) → first (map (against 3) middle) ≡ against 3 (suc n) → Traces a lent c r out (tracing-variants.Refused w) out
+        unfolding tracing traceRefusalOn
+        later n e q = refused-reply _ _ _ _ _ (ap againstOf e ∙ sided (suc n) .2 ∙ sym (call-passed z middle ∙ q)) (λ k. omega (arith, sym (ap (λ (x : SideRefusal). x .refusal .number) e) ∙ k))
 
-          pub trace-early : againstOf why ≡ against 3 17 → (r .outcome ≡ 2 → ⊥) → Traces g lent c r out (tracing-variants.Refused why) out
-          trace-early e k = later 16 e (applies 16 _ late (ap not (ne-eqb _ _ k)))
+        pub trace-early : w ≡ named (against 3 17) → (r .outcome ≡ 2 → ⊥) → Traces a lent c r out (tracing-variants.Refused w) out
+        trace-early e k = later 16 e (applies 16 _ late (ap not (ne-eqb _ _ k)))
 
-          pub trace-short : againstOf why ≡ against 3 18 → r .outcome ≡ 2 → length out < length (traceOf used-rows (r .settled)) → Traces g lent c r out (tracing-variants.Refused why) out
-          trace-short e k l = later 17 e (not-applies 17 _ late (ap not (eq-eqb _ _ k)) ∙ applies 17 _ [] (lt-ltb _ _ l))
+        pub trace-short : w ≡ named (against 3 18) → r .outcome ≡ 2 → length out < length (traceOf used-rows (r .settled)) → Traces a lent c r out (tracing-variants.Refused w) out
+        trace-short e k l = later 17 e (not-applies 17 _ late (ap not (eq-eqb _ _ k)) ∙ applies 17 _ [] (lt-ltb _ _ l))
 
-        pub trace-done : r .outcome ≡ 2 → (n : ℕ) (out′ : List ℕ)
-            → n ≡ length (climb (c .parents) (c .letters) (r .settled) (r .settled)) → n ≤ length out
-            → out′ ≡ front (climb (c .parents) (c .letters) (r .settled) (r .settled)) out
-            → Traces g lent c r out (tracing-variants.Accepted n) out′
-        unfolding tracing traceRefusal
-        trace-done k n out′ e l o′ =
-            let word = traceable z k .word in
-            let size : n ≡ length (traceOf used-rows (r .settled)) = e ∙ ap length (sym word) in
-            (λ i. exit (record { refusal = against 0 0; values = size i ∷ [] }) ((o′ ∙ ap (λ (w : List ℕ). front w out) (sym word)) i))
-            ∙ done-reply _ _ _ _
-            (sym (open-passed z middle
-            ∙ not-applies 17 _ late (ap not (eq-eqb _ _ k))
-            ∙ not-applies 18 _ [] (le-ltb _ _ (subst (λ (x : ℕ). x ≤ length out) size l))
-            ∙ none-left))
+      pub trace-done : r .outcome ≡ 2 → (n : ℕ) (out′ : List ℕ)
+          → n ≡ length (climb (c .parents) (c .letters) (r .settled) (r .settled)) → n ≤ length out
+          → out′ ≡ front (climb (c .parents) (c .letters) (r .settled) (r .settled)) out
+          → Traces a lent c r out (tracing-variants.Accepted n) out′
+      unfolding tracing traceRefusalOn
+      trace-done k n out′ e l o′ =
+          let word = traceable z k .word in
+          let size : n ≡ length (traceOf used-rows (r .settled)) = e ∙ ap length (sym word) in
+          (λ i. exit (record { refusal = against 0 0; values = size i ∷ [] }) ((o′ ∙ ap (λ (w : List ℕ). front w out) (sym word)) i))
+          ∙ done-reply _ _ _ _
+          (sym (call-passed z middle
+          ∙ not-applies 17 _ late (ap not (eq-eqb _ _ k))
+          ∙ not-applies 18 _ [] (le-ltb _ _ (subst (λ (x : ℕ). x ≤ length out) size l))
+          ∙ none-left))

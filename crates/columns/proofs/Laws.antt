@@ -23,7 +23,7 @@ use Rattle.goals.specs.Goals.{row, known, Entered, enter, enterAll, eachMember,
 use Rattle.columns.specs.Calls.{Columns, columns, rowAt, rowsIn, put}
 use Rattle.columns.specs.declared.Letters.{Letters}
 use Rattle.places.specs.Matching.{matchingBy}
-use Rattle.columns.specs.Core.{Fits, entering, Enters, lettered}
+use Rattle.columns.specs.Core.{Fits, entering, Enters}
 
 -- ---- rows in columns
 pub length-rowsIn : (c : Columns) (n : ℕ) → length (rowsIn c n) ≡ n
@@ -277,89 +277,38 @@ module _ (c : Columns) (n room : ℕ) (f : Fits c n room) (goal : Row) where
         full = refl;
       })
 
--- a goal that is entered if b
-module _ (c c′ : Columns) (room : ℕ) (g : Row) (e : Entered) (r : Entering) (b : Bool) where
-  pub enters-if : b ≡ true → Enters c c′ (enter room g e) r → Enters c c′ (enterAll room (cond b (g ∷ []) []) e) r
-  unfolding enterAll
-  enters-if h p = subst (λ (x : Bool). Enters c c′ (enterAll room (cond x (g ∷ []) []) e) r) (sym h) p
+-- ---- goals entered one after the other: those done stand in the columns, and the others are to come
+pub record Standing (lent : Columns) (used room : ℕ) (all : List Row) (c : Columns) (u : ℕ) (todo : List Row) : Type 0 where
+  pub done : List Row
+  pub whole : done ++ todo ≡ all
+  pub enters : Enters lent c (enterAll room done (entering (rowsIn lent used))) (entered u false)
 
-  pub enters-if-not : b ≡ false → Enters c c′ e r → Enters c c′ (enterAll room (cond b (g ∷ []) []) e) r
-  unfolding enterAll
-  enters-if-not h p = subst (λ (x : Bool). Enters c c′ (enterAll room (cond x (g ∷ []) []) e) r) (sym h) p
-
--- ---- goals entered part after part, as the loops over members and letters do
-pub record Parts : Type 0 where
-  pub lent : Columns
-  pub used : ℕ
-  pub room : ℕ
-  pub fits : Fits lent used room
-  -- the goals of the first n parts, and those of part n
-  pub goals : ℕ → List Row
-  pub part : ℕ → List Row
-  pub next : (n : ℕ) → goals (suc n) ≡ goals n ++ part n
-
--- the goals of the first n parts stand in the columns
-abbrev pub Stand : Parts → Columns → ℕ → Entering → Type 0
-Stand p c n r = Enters (p .lent) c (enterAll (p .room) (p .goals n) (entering (rowsIn (p .lent) (p .used)))) r
-
-module _ (p : Parts) (c : Columns) where
-  pub stand-fits : (n : ℕ) (r : Entering) → Stand p c n r → Fits c (r .used) (p .room)
-  stand-fits n r e = fits-first (p .lent) c c (p .room) (p .used) (p .goals n) [] r r (p .fits) e
-
-  pub stand-next : (c′ : Columns) (n u : ℕ) (r : Entering) → Stand p c n (entered u false) → Enters c c′ (enterAll (p .room) (p .part n) (entering (rowsIn c u))) r → Stand p c′ (suc n) r
-  stand-next c′ n u r e g =
-      rw (p .next n) (enters-then (p .lent) c c′ (p .room) (p .used) (p .goals n) (p .part n) (entered u false) r (p .fits) e refl g)
-
-  -- the next turn begins with what a turn that found room left
-  pub stand-again : (n : ℕ) (r : Entering) → Stand p c (suc n) r → r .full ≡ false → Stand p c (n + 1) (entered (r .used) false)
-  stand-again n r e h = rw add-one (record { columns = e .columns; used = e .used; full = sym h ∙ e .full })
-
-  -- once a goal finds no room, the parts that are left change nothing
-  pub stand-stop : (k n : ℕ) (r : Entering) → k ≤ n → Stand p c k r → r .full ≡ true → Stand p c n r
-  stand-stop k n r h e full =
-      let (ys, q) = rest n (n - k) (omega arith) in
-      rw q (enters-stop (p .lent) c c (p .room) (p .used) (p .goals k) ys r r (p .fits) e full)
-    where
-      rest : (n d : ℕ) → n ≡ k + d → (ys : List Row) × (p .goals n ≡ p .goals k ++ ys)
-      rest n zero e = ([], ap (p .goals) (let z : n ≡ k = omega arith in z) ∙ sym (append-nil (p .goals k)))
-      rest zero (suc d) e = absurd (omega arith)
-      rest (suc n) (suc d) e =
-          let (ys, q) = rest n d (omega arith) in
-          (ys ++ p .part n, p .next n ∙ ap (λ (l : List Row). l ++ p .part n) q ∙ append-assoc (p .goals k) ys (p .part n))
-
--- the members and the letters come one after another
-pub member-next : (m : ℕ) (f : ℕ → Row) (n : ℕ) → eachMember m f (suc n) ≡ eachMember m f n ++ cond (has m n) (f n ∷ []) []
-unfolding eachMember
-member-next m f n = refl
-
-pub letter-next : (f : ℕ → List Row) (n : ℕ) → eachLetter f (suc n) ≡ eachLetter f n ++ f n
-unfolding eachLetter
-letter-next f n = refl
-
--- the goals of a letter, with the matching sets as they were worked out
-pub lettered-by : (c c′ : Columns) (room follow spread i x a b : ℕ) (ls : Letters) (e : Entered) (r : Entering)
-    → a ≡ matchingBy (ls .left) (ls .s) (ls .m) x → b ≡ matchingBy (ls .right) (ls .s) (ls .k) x
-    → Enters c c′ (enterAll room (eachMember (bitAnd follow a) (λ j. row j (bitAnd spread b) i x) 64) e) r
-    → Enters c c′ (enterAll room (lettered ls follow spread i x) e) r
-lettered-by c c′ room follow spread i x a b ls e r p q h =
-    subst (λ (t : Entered). Enters c c′ t r) (ap₂ (λ (u v : ℕ). enterAll room (eachMember (bitAnd follow u) (λ j. row j (bitAnd spread v) i x) 64) e) p q) h
-
--- a letter of up to 16 signals has 16 bits
-pub letter-fits : (s x : ℕ) → s ≤ 16 → x < 2 ^ s → x < 2 ^ 16
-letter-fits s x h l = lt-of-lt-of-le l (pow-mono {i = s} {j = 16} h)
-
--- a letter that no follower matches has no goal
-members-none : (f : ℕ → Row) (n : ℕ) → eachMember 0 f n ≡ []
-unfolding eachMember
-members-none f zero = refl
-members-none f (suc n) =
-    ap₂ (λ (l : List Row) (b : Bool). l ++ cond b (f n ∷ []) []) (members-none f n) (ne-eqb (bit 0 n) 1 (λ e. omega (arith, e, bit-zero n)))
-
-pub lettered-none : (c : Columns) (n room follow spread i x a : ℕ) (ls : Letters) → Fits c n room → a ≡ matchingBy (ls .left) (ls .s) (ls .m) x → bitAnd follow a ≡ 0
-    → Enters c c (enterAll room (lettered ls follow spread i x) (entering (rowsIn c n))) (entered n false)
+pub stand-start : (lent : Columns) (used room : ℕ) (all : List Row) → Fits lent used room → Standing lent used room all lent used all
 unfolding enterAll
-lettered-none c n room follow spread i x a ls f p z =
-    let goals : ℕ → Row = λ j. row j (bitAnd spread (matchingBy (ls .right) (ls .s) (ls .k) x)) i x in
-    subst (λ (l : List Row). Enters c c (enterAll room l (entering (rowsIn c n))) (entered n false))
-    (sym (ap (λ (m : ℕ). eachMember m goals 64) (ap (bitAnd follow) (sym p) ∙ z) ∙ members-none goals 64))
-    (enters-none c n room f (row 0 0 0 0))
+stand-start lent used room all f = record { done = []; whole = refl; enters = enters-none lent used room f (row 0 0 0 0) }
+
+module _ (lent : Columns) (used room : ℕ) (all : List Row) (f : Fits lent used room) (c : Columns) (u : ℕ) where
+  pub stand-fits : (todo : List Row) → Standing lent used room all c u todo → Fits c u room
+  stand-fits todo s = fits-first lent c c room used (s .done) [] (entered u false) (entered u false) f (s .enters)
+
+  pub stand-done : (todo : List Row) → Standing lent used room all c u todo → todo ≡ [] → Enters lent c (enterAll room all (entering (rowsIn lent used))) (entered u false)
+  stand-done todo s e =
+      subst (λ (l : List Row). Enters lent c (enterAll room l (entering (rowsIn lent used))) (entered u false))
+      (sym (append-nil (s .done)) ∙ ap (λ (t : List Row). s .done ++ t) (sym e) ∙ s .whole) (s .enters)
+
+  module _ (todo : List Row) (s : Standing lent used room all c u todo) (goal : Row) (next : List Row) (e : todo ≡ goal ∷ next)
+      (c′ : Columns) (r : Entering) (g : Enters c c′ (enter room goal (entering (rowsIn c u))) r) where
+    whole-next : (s .done ++ (goal ∷ [])) ++ next ≡ all
+    whole-next = append-assoc (s .done) (goal ∷ []) next ∙ ap (λ (t : List Row). s .done ++ t) (sym e) ∙ s .whole
+
+    more : Enters lent c′ (enterAll room (s .done ++ (goal ∷ [])) (entering (rowsIn lent used))) r
+    unfolding enterAll
+    more = enters-then lent c c′ room used (s .done) (goal ∷ []) (entered u false) r f (s .enters) refl g
+
+    pub stand-next : r .full ≡ false → Standing lent used room all c′ (r .used) next
+    stand-next h = record { done = s .done ++ (goal ∷ []); whole = whole-next; enters = record { columns = more .columns; used = more .used; full = sym h ∙ more .full } }
+
+    pub stand-stop : r .full ≡ true → Enters lent c′ (enterAll room all (entering (rowsIn lent used))) r
+    stand-stop h =
+        subst (λ (l : List Row). Enters lent c′ (enterAll room l (entering (rowsIn lent used))) r) whole-next
+        (enters-stop lent c′ c′ room used (s .done ++ (goal ∷ [])) next r r f more h)

@@ -9,7 +9,8 @@ use Rattle.goals.specs.declared.Run.{Run}
 use Rattle.goals.specs.declared.Which.{Which}
 use Rattle.goals.specs.declared.Which.the-variants.{Left, Right, Both}
 use Rattle.goals.specs.declared.SideRefusal.{SideRefusal}
-use Rattle.goals.specs.Refusals.{Given, Against, sideNumber, againstOf, Reply, Leaves}
+use Rattle.goals.specs.Refusals.{Against, sideNumber, againstOf, Reply, Leaves}
+use Rattle.asking.specs.declared.Asked.{Asked}
 use Rattle.columns.specs.declared.Called.{Called}
 use Rattle.columns.specs.declared.Called.the-variants as called-variants
 use Rattle.columns.specs.declared.Tracing.{Tracing}
@@ -55,11 +56,11 @@ tracing-one (tracing-variants.Refused w) (tracing-variants.Refused w′) e = ap 
 pub left-one : {Lent : Type 0} {a b : Leaves Lent} → a ≡ b → (a .reply ≡ b .reply) × (a .lent ≡ b .lent)
 left-one {Lent} e = (ap (λ (t : Leaves Lent). t .reply) e, ap (λ (t : Leaves Lent). t .lent) e)
 
-pub start-one : (g : Given) (lent : ℕ) (c d d′ : Columns) (r r′ : Called) → Starts g lent c r d → Starts g lent c r′ d′ → (r ≡ r′) × (d ≡ d′)
-start-one g lent c d d′ r r′ p q = let e = left-one (p ∙ sym q) in (called-one r r′ (e .0), e .1)
+pub start-one : (a : Asked) (lent : ℕ) (c d d′ : Columns) (r r′ : Called) → Starts a lent c r d → Starts a lent c r′ d′ → (r ≡ r′) × (d ≡ d′)
+start-one a lent c d d′ r r′ p q = let e = left-one (p ∙ sym q) in (called-one r r′ (e .0), e .1)
 
-pub run-one : (g : Given) (lent : ℕ) (c d d′ : Columns) (held : Run) (budget : ℕ) (r r′ : Called) → Runs g lent c held budget r d → Runs g lent c held budget r′ d′ → (r ≡ r′) × (d ≡ d′)
-run-one g lent c d d′ held budget r r′ p q = let e = left-one (p ∙ sym q) in (called-one r r′ (e .0), e .1)
+pub run-one : (a : Asked) (lent : ℕ) (c d d′ : Columns) (held : Run) (budget : ℕ) (r r′ : Called) → Runs a lent c held budget r d → Runs a lent c held budget r′ d′ → (r ≡ r′) × (d ≡ d′)
+run-one a lent c d d′ held budget r r′ p q = let e = left-one (p ∙ sym q) in (called-one r r′ (e .0), e .1)
 
-pub trace-one : (g : Given) (lent : ℕ) (c : Columns) (held : Run) (out o o′ : List ℕ) (r r′ : Tracing) → Traces g lent c held out r o → Traces g lent c held out r′ o′ → (r ≡ r′) × (o ≡ o′)
-trace-one g lent c held out o o′ r r′ p q = let e = left-one (p ∙ sym q) in (tracing-one r r′ (e .0), e .1)
+pub trace-one : (a : Asked) (lent : ℕ) (c : Columns) (held : Run) (out o o′ : List ℕ) (r r′ : Tracing) → Traces a lent c held out r o → Traces a lent c held out r′ o′ → (r ≡ r′) × (o ≡ o′)
+trace-one a lent c held out o o′ r r′ p q = let e = left-one (p ∙ sym q) in (tracing-one r r′ (e .0), e .1)

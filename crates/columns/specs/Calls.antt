@@ -3,12 +3,16 @@ use Prim.Native.Nat.{ℕ, zero, suc, min}
 use mathlib.Core.Path.{_≡_}
 use mathlib.Core.List.{List, [], _∷_, _++_, map}
 use lib.ListN.{length, getD}
+use denote.Triple.Both.{Both}
+use denote.Ref.{RefT}
 use Rattle.effect.specs.Refusals.{front}
 use Rattle.goals.specs.declared.Row.{Row}
 use Rattle.goals.specs.declared.Run.{Run}
 use Rattle.goals.specs.Goals.{row}
 use Rattle.goals.specs.Run.{State, state, started, traceOf}
-use Rattle.goals.specs.Refusals.{Given, recordOf, startRefusal, runRefusal, traceRefusal, against, againstOf, Reply, leaves, exit, valuesOf, runAfter}
+use Rattle.asking.specs.declared.Asked.{Asked}
+use Rattle.asking.specs.Asked.{startRefusalOn, runRefusalOn, traceRefusalOn, runAfterOn}
+use Rattle.goals.specs.Refusals.{recordOf, against, againstOf, Reply, leaves, exit, valuesOf}
 use Rattle.columns.specs.declared.Called.{Called}
 use Rattle.columns.specs.declared.Called.the-variants as called-variants
 use Rattle.columns.specs.declared.Tracing.{Tracing}
@@ -23,6 +27,19 @@ pub record Columns : Type 0 where
 
 abbrev pub columns : List ℕ → List ℕ → List ℕ → List ℕ → Columns
 columns p s q l = record { places = p; sets = s; parents = q; letters = l }
+
+-- the four columns of a contract: as lent to a `requires`, and at entry and at exit of an `ensures`
+abbrev pub Slice : Type 0
+Slice = RefT (List ℕ)
+
+abbrev pub here : Slice → Slice → Slice → Slice → Columns
+here p s q l = columns (p .now) (s .now) (q .now) (l .now)
+
+abbrev pub before : Both Slice Slice → Both Slice Slice → Both Slice Slice → Both Slice Slice → Columns
+before p s q l = here (p .entry) (s .entry) (q .entry) (l .entry)
+
+abbrev pub after : Both Slice Slice → Both Slice Slice → Both Slice Slice → Both Slice Slice → Columns
+after p s q l = here (p .exit) (s .exit) (q .exit) (l .exit)
 
 abbrev pub rowAt : Columns → ℕ → Row
 rowAt c i = row (getD (c .places) i 0) (getD (c .sets) i 0) (getD (c .parents) i 0) (getD (c .letters) i 0)
@@ -60,22 +77,22 @@ tracing (tracing-variants.Accepted n) = record { refusal = against 0 0; values =
 tracing (tracing-variants.Refused why) = record { refusal = againstOf why; values = [] }
 
 -- the promise of `start_on`
-abbrev pub Starts : Given → ℕ → Columns → Called → Columns → Type 0
-Starts g lent c answer c′ =
-    exit (called answer) c′ ≡ leaves (startRefusal g (lentIn lent c)) (valuesOf (recordOf started)) (put (started .rows) c) c
+abbrev pub Starts : Asked → ℕ → Columns → Called → Columns → Type 0
+Starts a lent c answer c′ =
+    exit (called answer) c′ ≡ leaves (startRefusalOn a (lentIn lent c)) (valuesOf (recordOf started)) (put (started .rows) c) c
 
 -- the promise of `run_on`
-abbrev pub Runs : Given → ℕ → Columns → Run → ℕ → Called → Columns → Type 0
-Runs g lent c r budget answer c′ =
+abbrev pub Runs : Asked → ℕ → Columns → Run → ℕ → Called → Columns → Type 0
+Runs a lent c r budget answer c′ =
     let rows = rowsIn c (r .used) in
-    let st = runAfter g (lentIn lent c) rows r budget in
-    exit (called answer) c′ ≡ leaves (runRefusal g (lentIn lent c) rows r) (valuesOf (recordOf st)) (put (st .rows) c) c
+    let st = runAfterOn a (lentIn lent c) rows r budget in
+    exit (called answer) c′ ≡ leaves (runRefusalOn a (lentIn lent c) rows r) (valuesOf (recordOf st)) (put (st .rows) c) c
 
 -- the promise of `trace_on`: "the letters from row 0 to the refuted row, one byte each, at the buffer's front, and answers how
 -- many; the rest stays"
-abbrev pub Traces : Given → ℕ → Columns → Run → List ℕ → Tracing → List ℕ → Type 0
-Traces g lent c r out answer out′ =
+abbrev pub Traces : Asked → ℕ → Columns → Run → List ℕ → Tracing → List ℕ → Type 0
+Traces a lent c r out answer out′ =
     let rows = rowsIn c (r .used) in
     let word = traceOf rows (r .settled) in
     exit (tracing answer) out′
-    ≡ leaves (traceRefusal g (lentIn lent c) rows r (length out)) (length word ∷ []) (front word out) out
+    ≡ leaves (traceRefusalOn a (lentIn lent c) rows r (length out)) (length word ∷ []) (front word out) out

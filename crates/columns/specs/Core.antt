@@ -1,8 +1,7 @@
 -- What the functions under the calls promise each other.
 use Prim.Native.Nat.{ℕ, zero, suc, _≤_, _<_, _^_}
-use lib.Bits.{bitAnd}
 use mathlib.Core.Path.{_≡_}
-use mathlib.Core.Bool.{true, false, cond}
+use mathlib.Core.Bool.{true, false}
 use mathlib.Core.List.{List, [], _∷_, _++_}
 use lib.Dec.{eqb}
 use lib.ListN.{length, getD}
@@ -10,16 +9,13 @@ use Rattle.goals.specs.declared.Row.{Row}
 use Rattle.places.specs.Matching.{namingOf, matchingBy}
 use Rattle.columns.specs.declared.Entering.{Entering}
 use Rattle.columns.specs.declared.Letters.{Letters}
-use Rattle.goals.specs.Goals.{row, eachMember, Entered}
+use Rattle.goals.specs.Goals.{Entered}
 use Rattle.places.specs.declared.Side.{Side}
 use Rattle.places.specs.Readings.{matching}
 use Rattle.goals.specs.declared.Run.{Run}
 use Rattle.goals.specs.Run.{State}
-use Rattle.goals.specs.declared.SideRefusal.{SideRefusal}
-use Rattle.columns.specs.declared.Sides.{Sides}
-use Rattle.columns.specs.declared.Opened.{Opened}
-use Rattle.goals.specs.Refusals.{Given, leftOf, rightOf, recordOf, Against, against, againstOf, first, sideRules, roomOf, runRefusal}
-use Rattle.columns.specs.Calls.{Columns, put, rowsIn}
+use Rattle.goals.specs.Refusals.{recordOf}
+use Rattle.columns.specs.Calls.{Columns, put}
 
 -- the columns have room for so many rows, of which so many are used
 pub record Fits (c : Columns) (n room : ℕ) : Type 0 where
@@ -40,21 +36,14 @@ pub record Enters (before after : Columns) (e : Entered) (r : Entering) : Type 0
   pub used : r .used ≡ length (e .rows)
   pub full : r .full ≡ e .full
 
--- the goals of the letter x, with what the letters leave of the left followers and of the right set
-abbrev pub lettered : Letters → ℕ → ℕ → ℕ → ℕ → List Row
-lettered ls follow spread i x =
-    eachMember (bitAnd follow (matchingBy (ls .left) (ls .s) (ls .m) x))
-    (λ j. row j (bitAnd spread (matchingBy (ls .right) (ls .s) (ls .k) x)) i x)
-    64
-
 -- a run that can take a step: some row is not settled, and the letters are worked out for the two sides
 pub record Ready (c : Columns) (room : ℕ) (left right : Side) (ls : Letters) (r : Run) : Type 0 where
   pub fits : Fits c (r .used) room
   pub left-over : r .settled < r .used
   pub few : ls .s ≤ 16
   pub signals : ls .s ≡ left .s
-  pub on-left : (x : ℕ) → x < 2 ^ (left .s) → matchingBy (ls .left) (ls .s) (ls .m) x ≡ matching left x
-  pub on-right : (x : ℕ) → x < 2 ^ (left .s) → matchingBy (ls .right) (ls .s) (ls .k) x ≡ matching right x
+  pub on-left : (x : ℕ) → x < 2 ^ (left .s) → matchingBy (ls .left) (ls .s) x ≡ matching left x
+  pub on-right : (x : ℕ) → x < 2 ^ (left .s) → matchingBy (ls .right) (ls .s) x ≡ matching right x
 
 -- columns and record are what the definition's state says
 pub record Steps (before after : Columns) (st : State) (r : Run) : Type 0 where
@@ -63,7 +52,7 @@ pub record Steps (before after : Columns) (st : State) (r : Run) : Type 0 where
 
 -- a side by value whose letters can be worked out signal by signal
 abbrev pub Matchable : Side → Type 0
-Matchable sd = (x : ℕ) → x < 2 ^ (sd .s) → matchingBy (namingOf sd) (sd .s) (sd .count) x ≡ matching sd x
+Matchable sd = (x : ℕ) → x < 2 ^ (sd .s) → matchingBy (namingOf sd) (sd .s) x ≡ matching sd x
 
 -- a run that can be gone on with, decided or not
 pub record Runnable (c : Columns) (room : ℕ) (left right : Side) (r : Run) : Type 0 where
@@ -73,23 +62,6 @@ pub record Runnable (c : Columns) (room : ℕ) (left right : Side) (r : Run) : T
   pub signals : right .s ≡ left .s
   pub on-left : Matchable left
   pub on-right : Matchable right
-
--- the refusal that is none where its number is 0
-abbrev pub refusedBy : SideRefusal → Against
-refusedBy why = cond (eqb (why .refusal .number) 0) (against 0 0) (againstOf why)
-
--- both sides, or why there are none
-pub record Prepares (g : Given) (r : Sides) : Type 0 where
-  pub why : refusedBy (r .why) ≡ first (sideRules g)
-  pub left : r .why .refusal .number ≡ 0 → r .left ≡ leftOf g
-  pub right : r .why .refusal .number ≡ 0 → r .right ≡ rightOf g
-
--- what run and trace begin with, of n rows lent: both sides and the room, or why not
-pub record Opens (g : Given) (n : ℕ) (c : Columns) (r : Run) (o : Opened) : Type 0 where
-  pub why : refusedBy (o .why) ≡ runRefusal g n (rowsIn c (r .used)) r
-  pub left : o .why .refusal .number ≡ 0 → o .left ≡ leftOf g
-  pub right : o .why .refusal .number ≡ 0 → o .right ≡ rightOf g
-  pub room : o .room ≡ roomOf n
 
 -- every row but row 0 has its parent below it, and so leads to row 0
 abbrev pub Rooted : List ℕ → ℕ → Type 0

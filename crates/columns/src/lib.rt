@@ -1,11 +1,15 @@
 // The run on number slices: start, run and trace on parallel columns of rows.
-use effect::Refusal;
+use asking::Asked;
+use asking::both;
 use goals::Row;
 use goals::Run;
 use goals::SideRefusal;
-use goals::Which;
 use places::Naming;
 use places::Side;
+use stepping::Cursor;
+use stepping::Next;
+use stepping::Source;
+use stepping::next_goal;
 ghost use mathlib.Core.Path.{_≡_};
 ghost use mathlib.Core.Bool.{_&&_, not, cond};
 ghost use mathlib.Core.List.{[], _∷_};
@@ -14,11 +18,13 @@ ghost use lib.Dec.{eqb};
 ghost use lib.ListN.{length, getD};
 ghost use Rattle.bits.specs.Bit.{has};
 ghost use Rattle.effect.specs.Refusals.{rule, someBelow, front};
-ghost use Rattle.goals.specs.Goals.{row, eachMember, eachLetter, bad, enter, enterAll};
+ghost use Rattle.goals.specs.Goals.{enter, enterAll};
 ghost use Rattle.goals.specs.Run.{step, steps, run};
-ghost use Rattle.goals.specs.Refusals.{given, roomOf, rowImpossible, impossible, against, againstOf, first};
-ghost use Rattle.columns.specs.Calls.{columns, rowAt, rowsIn, stateOf, Starts, Runs, Traces};
-ghost use Rattle.columns.specs.Core.{Fits, Enters, entering, lettered, Ready, Steps, Runnable, refusedBy, Prepares, Rooted, climb, Opens};
+ghost use Rattle.goals.specs.Refusals.{roomOf, rowImpossible, impossible};
+ghost use Rattle.asking.specs.Asked.{named, runRefusalOn};
+ghost use Rattle.stepping.specs.Rest.{allGoals};
+ghost use Rattle.columns.specs.Calls.{here, before, after, rowAt, rowsIn, stateOf, Starts, Runs, Traces};
+ghost use Rattle.columns.specs.Core.{Fits, Enters, entering, Ready, Steps, Runnable, Rooted, climb};
 
 // What start and run answer: the record of the run, or the refusal.
 pub enum Called {
@@ -32,27 +38,9 @@ pub enum Tracing {
     Refused(SideRefusal),
 }
 
-// Both sides, or why there are none (number 0: there are).
-struct Sides {
-    why: SideRefusal,
-    left: Side,
-    right: Side,
-}
-
-// What run and trace begin with: both sides and the room, or why not.
-struct Opened {
-    why: SideRefusal,
-    left: Side,
-    right: Side,
-    room: usize,
-}
-
-// The letters of a call, worked out once: s signals, m instants on the left and k on the right, and for each side which
-// places name a signal.
+// The letters of a call, worked out once: s signals, and for each side which places name a signal.
 struct Letters {
     s: u8,
-    m: u8,
-    k: u8,
     left: Naming,
     right: Naming,
 }
@@ -88,8 +76,10 @@ fn enter_goal(
     room: usize,
     goal: Row,
 ) -> Entering
-    requires { ⌜ Fits (columns (now places) (now sets) (now parents) (now letters)) used room ⌝ }
-    ensures { λ r. ⌜ Enters (columns (now (places .entry)) (now (sets .entry)) (now (parents .entry)) (now (letters .entry))) (columns (now (places .exit)) (now (sets .exit)) (now (parents .exit)) (now (letters .exit))) (enter room goal (entering (rowsIn (columns (now (places .entry)) (now (sets .entry)) (now (parents .entry)) (now (letters .entry))) used))) r ⌝ }
+    requires { ⌜ Fits (here places sets parents letters) used room ⌝ }
+    ensures { λ r.
+        let c = before places sets parents letters in
+        ⌜ Enters c (after places sets parents letters) (enter room goal (entering (rowsIn c used))) r ⌝ }
 {
     let place = goal.place;
     let set = goal.set;
@@ -115,152 +105,55 @@ fn enter_goal(
     }
 }
 
-// Enters the goal at place j, if j is a member.
-fn enter_if(
+// Enters the goals of a row, one after the other, until one finds no room.
+fn enter_goals(
     places: &mut [u8],
     sets: &mut [u64],
     parents: &mut [u16],
     letters: &mut [u16],
     used: usize,
     room: usize,
-    members: u64,
-    j: u8,
-    goal: Row,
+    from: Source,
 ) -> Entering
-    requires { ⌜ Fits (columns (now places) (now sets) (now parents) (now letters)) used room ⌝ }
-    ensures { λ r. ⌜ Enters (columns (now (places .entry)) (now (sets .entry)) (now (parents .entry)) (now (letters .entry))) (columns (now (places .exit)) (now (sets .exit)) (now (parents .exit)) (now (letters .exit))) (enterAll room (cond (has members j) (row j (goal .set) (goal .parent) (goal .letter) ∷ []) []) (entering (rowsIn (columns (now (places .entry)) (now (sets .entry)) (now (parents .entry)) (now (letters .entry))) used))) r ⌝ }
-{
-    if bits::has(members, j as u64) {
-        let next = Row {
-            set: goal.set,
-            parent: goal.parent,
-            letter: goal.letter,
-            place: j,
-        };
-        return enter_goal(places, sets, parents, letters, used, room, next);
-    }
-    Entering {
-        used: used,
-        full: false,
-    }
-}
-
-// Enters the goal at each member, ascending, until one finds no room.
-fn enter_members(
-    places: &mut [u8],
-    sets: &mut [u64],
-    parents: &mut [u16],
-    letters: &mut [u16],
-    used: usize,
-    room: usize,
-    members: u64,
-    goal: Row,
-) -> Entering
-    requires { ⌜ Fits (columns (now places) (now sets) (now parents) (now letters)) used room ⌝ }
-    ensures { λ r. ⌜ Enters (columns (now (places .entry)) (now (sets .entry)) (now (parents .entry)) (now (letters .entry))) (columns (now (places .exit)) (now (sets .exit)) (now (parents .exit)) (now (letters .exit))) (enterAll room (eachMember members (λ j. row j (goal .set) (goal .parent) (goal .letter)) 64) (entering (rowsIn (columns (now (places .entry)) (now (sets .entry)) (now (parents .entry)) (now (letters .entry))) used))) r ⌝ }
+    requires { ⌜ Fits (here places sets parents letters) used room ⌝ }
+    ensures { λ r.
+        let c = before places sets parents letters in
+        ⌜ Enters c (after places sets parents letters) (enterAll room (allGoals from) (entering (rowsIn c used))) r ⌝ }
 {
     let mut u = used;
-    let mut j: u8 = 0;
-    while j < 64 {
-        let e = enter_if(places, sets, parents, letters, u, room, members, j, goal);
-        if e.full {
-            return e;
-        }
-        u = e.used;
-        j += 1;
-    }
-    Entering {
-        used: u,
-        full: false,
-    }
-}
-
-// Enters the goals of the letter x. One that no follower matches is passed at once.
-fn enter_letter(
-    places: &mut [u8],
-    sets: &mut [u64],
-    parents: &mut [u16],
-    letters: &mut [u16],
-    used: usize,
-    room: usize,
-    ls: Letters,
-    follow: u64,
-    spread: u64,
-    parent: u16,
-    x: u16,
-) -> Entering
-    requires { ⌜ Fits (columns (now places) (now sets) (now parents) (now letters)) used room ⌝ }
-    ensures { λ r. ⌜ Enters (columns (now (places .entry)) (now (sets .entry)) (now (parents .entry)) (now (letters .entry))) (columns (now (places .exit)) (now (sets .exit)) (now (parents .exit)) (now (letters .exit))) (enterAll room (lettered ls follow spread parent x) (entering (rowsIn (columns (now (places .entry)) (now (sets .entry)) (now (parents .entry)) (now (letters .entry))) used))) r ⌝ }
-{
-    let left = ls.left;
-    let right = ls.right;
-    let members = follow & places::matching(left, ls.s, ls.m, x);
-    if members == 0 {
-        return Entering {
-            used: used,
-            full: false,
-        };
-    }
-    let on_right = places::matching(right, ls.s, ls.k, x);
-    let goal = Row {
-        set: spread & on_right,
-        parent: parent,
-        letter: x,
-        place: 0,
+    let mut cur = Cursor {
+        x: 0,
+        letter: 0,
+        set: 0,
+        members: 0,
     };
-    enter_members(places, sets, parents, letters, used, room, members, goal)
-}
-
-// Enters the goals of each letter, ascending, until one finds no room.
-fn enter_letters(
-    places: &mut [u8],
-    sets: &mut [u64],
-    parents: &mut [u16],
-    letters: &mut [u16],
-    used: usize,
-    room: usize,
-    ls: Letters,
-    follow: u64,
-    spread: u64,
-    parent: u16,
-) -> Entering
-    requires fits { ⌜ Fits (columns (now places) (now sets) (now parents) (now letters)) used room ⌝ }
-    requires few { ⌜ ls .s ≤ 16 ⌝ }
-    ensures { λ r. ⌜ Enters (columns (now (places .entry)) (now (sets .entry)) (now (parents .entry)) (now (letters .entry))) (columns (now (places .exit)) (now (sets .exit)) (now (parents .exit)) (now (letters .exit))) (enterAll room (eachLetter (lettered ls follow spread parent) (2 ^ (ls .s))) (entering (rowsIn (columns (now (places .entry)) (now (sets .entry)) (now (parents .entry)) (now (letters .entry))) used))) r ⌝ }
-{
-    let mut u = used;
-    let n: u32 = 1 << (ls.s as u32);
-    let mut x: u32 = 0;
-    while x < n {
-        let e = enter_letter(
-            places,
-            sets,
-            parents,
-            letters,
-            u,
-            room,
-            ls,
-            follow,
-            spread,
-            parent,
-            x as u16,
-        );
-        if e.full {
-            return e;
+    loop {
+        match next_goal(from, cur) {
+            Next::Done => {
+                return Entering {
+                    used: u,
+                    full: false,
+                };
+            },
+            Next::Goal(goal, next) => {
+                let e = enter_goal(places, sets, parents, letters, u, room, goal);
+                if e.full {
+                    return e;
+                }
+                u = e.used;
+                cur = next;
+            },
         }
-        u = e.used;
-        x += 1;
-    }
-    Entering {
-        used: u,
-        full: false,
     }
 }
 
 // The record once the goals of row r are entered.
 fn settled(r: u32, e: Entering) -> Run
     requires { ⌜ (e .used < 65536) × (r < 65536) ⌝ }
-    ensures { λ w. ⌜ (w .used ≡ e .used) × (w .settled ≡ cond (e .full) r (r + 1)) × (w .outcome ≡ cond (e .full) 3 (cond (eqb (r + 1) (e .used)) 1 0)) ⌝ }
+    ensures { λ w.
+        let settled : ℕ = cond (e .full) r (r + 1) in
+        let outcome : ℕ = cond (e .full) 3 (cond (eqb (r + 1) (e .used)) 1 0) in
+        ⌜ (w .used ≡ e .used) × (w .settled ≡ settled) × (w .outcome ≡ outcome) ⌝ }
 {
     let used = e.used as u32;
     if e.full {
@@ -296,8 +189,10 @@ fn step_on(
     ls: Letters,
     run: Run,
 ) -> Run
-    requires { ⌜ Ready (columns (now places) (now sets) (now parents) (now letters)) room left right ls run ⌝ }
-    ensures { λ r. ⌜ Steps (columns (now (places .entry)) (now (sets .entry)) (now (parents .entry)) (now (letters .entry))) (columns (now (places .exit)) (now (sets .exit)) (now (parents .exit)) (now (letters .exit))) (step left right room (stateOf (columns (now (places .entry)) (now (sets .entry)) (now (parents .entry)) (now (letters .entry))) run)) r ⌝ }
+    requires { ⌜ Ready (here places sets parents letters) room left right ls run ⌝ }
+    ensures { λ r.
+        let c = before places sets parents letters in
+        ⌜ Steps c (after places sets parents letters) (step left right room (stateOf c run)) r ⌝ }
 {
     let r = run.settled as usize;
     let place = places[r];
@@ -312,17 +207,25 @@ fn step_on(
     let follow = left.follow;
     let ahead = goals::followers_at(follow, place as usize);
     let spread = goals::spread_of(right, set);
-    let e = enter_letters(
+    let on_left = ls.left;
+    let on_right = ls.right;
+    let from = Source {
+        s: ls.s,
+        letters: 1 << (ls.s as u32),
+        left: on_left,
+        right: on_right,
+        follow: ahead,
+        spread: spread,
+        parent: r as u16,
+    };
+    let e = enter_goals(
         places,
         sets,
         parents,
         letters,
         run.used as usize,
         room,
-        ls,
-        ahead,
-        spread,
-        r as u16,
+        from,
     );
     settled(run.settled, e)
 }
@@ -340,8 +243,10 @@ fn steps_on(
     run: Run,
     budget: u64,
 ) -> Run
-    requires { ⌜ Ready (columns (now places) (now sets) (now parents) (now letters)) room left right ls run ⌝ }
-    ensures { λ r. ⌜ Steps (columns (now (places .entry)) (now (sets .entry)) (now (parents .entry)) (now (letters .entry))) (columns (now (places .exit)) (now (sets .exit)) (now (parents .exit)) (now (letters .exit))) (steps left right room budget (stateOf (columns (now (places .entry)) (now (sets .entry)) (now (parents .entry)) (now (letters .entry))) run)) r ⌝ }
+    requires { ⌜ Ready (here places sets parents letters) room left right ls run ⌝ }
+    ensures { λ r.
+        let c = before places sets parents letters in
+        ⌜ Steps c (after places sets parents letters) (steps left right room budget (stateOf c run)) r ⌝ }
 {
     let mut cur = run;
     let mut b: u64 = 0;
@@ -368,8 +273,10 @@ fn run_sides(
     held: Run,
     budget: u64,
 ) -> Run
-    requires { ⌜ Runnable (columns (now places) (now sets) (now parents) (now letters)) room left right held ⌝ }
-    ensures { λ r. ⌜ Steps (columns (now (places .entry)) (now (sets .entry)) (now (parents .entry)) (now (letters .entry))) (columns (now (places .exit)) (now (sets .exit)) (now (parents .exit)) (now (letters .exit))) (run left right room budget (stateOf (columns (now (places .entry)) (now (sets .entry)) (now (parents .entry)) (now (letters .entry))) held)) r ⌝ }
+    requires { ⌜ Runnable (here places sets parents letters) room left right held ⌝ }
+    ensures { λ r.
+        let c = before places sets parents letters in
+        ⌜ Steps c (after places sets parents letters) (run left right room budget (stateOf c held)) r ⌝ }
 {
     if held.outcome == 1 {
         return held;
@@ -381,8 +288,6 @@ fn run_sides(
     let on_right = places::naming_of(right);
     let ls = Letters {
         s: left.s,
-        m: left.count,
-        k: right.count,
         left: on_left,
         right: on_right,
     };
@@ -403,7 +308,7 @@ fn run_sides(
 // Row i of the columns.
 fn row_at(places: &[u8], sets: &[u64], parents: &[u16], letters: &[u16], i: usize) -> Row
     requires { ⌜ (i < length (now places)) × (i < length (now sets)) × (i < length (now parents)) × (i < length (now letters)) ⌝ }
-    ensures { λ r. ⌜ r ≡ rowAt (columns (now (places .entry)) (now (sets .entry)) (now (parents .entry)) (now (letters .entry))) i ⌝ }
+    ensures { λ r. ⌜ r ≡ rowAt (before places sets parents letters) i ⌝ }
 {
     Row {
         set: sets[i],
@@ -424,8 +329,8 @@ fn some_row_impossible(
     m: u8,
     k: u8,
 ) -> bool
-    requires { ⌜ Fits (columns (now places) (now sets) (now parents) (now letters)) 1 used ⌝ }
-    ensures { λ r. ⌜ r ≡ someBelow used (λ i. not (eqb i 0) && rowImpossible s m k i (rowAt (columns (now (places .entry)) (now (sets .entry)) (now (parents .entry)) (now (letters .entry))) i)) ⌝ }
+    requires { ⌜ Fits (here places sets parents letters) 1 used ⌝ }
+    ensures { λ r. ⌜ r ≡ someBelow used (λ i. not (eqb i 0) && rowImpossible s m k i (rowAt (before places sets parents letters) i)) ⌝ }
 {
     let mut i: usize = 1;
     while i < used {
@@ -450,8 +355,8 @@ fn is_impossible(
     k: u8,
     held: Run,
 ) -> bool
-    requires { ⌜ Fits (columns (now places) (now sets) (now parents) (now letters)) 0 room ⌝ }
-    ensures { λ r. ⌜ r ≡ impossible s m k room (rowsIn (columns (now (places .entry)) (now (sets .entry)) (now (parents .entry)) (now (letters .entry))) (held .used)) held ⌝ }
+    requires { ⌜ Fits (here places sets parents letters) 0 room ⌝ }
+    ensures { λ r. ⌜ r ≡ impossible s m k room (rowsIn (before places sets parents letters) (held .used)) held ⌝ }
 {
     if goals::record_impossible(room, held) {
         return true;
@@ -463,70 +368,18 @@ fn is_impossible(
     some_row_impossible(places, sets, parents, letters, held.used as usize, s, m, k)
 }
 
-// A refusal that names both sides.
-fn both(number: u8) -> SideRefusal
-    ensures { λ r. ⌜ againstOf r ≡ against 3 number ⌝ }
-{
-    SideRefusal {
-        side: Which::Both,
-        refusal: Refusal { number: number },
-    }
-}
-
-// The refusal of two sides, left before right; number 0 where there is none.
-fn sides_refusal(ls: u8, left: Refusal, rs: u8, right: Refusal) -> SideRefusal
-    ensures { λ r. ⌜ refusedBy r ≡ first (against 1 (left .number) ∷ against 2 (right .number) ∷ against 3 (rule 14 (not (eqb ls rs))) ∷ []) ⌝ }
-{
-    if left.number != 0 {
-        return SideRefusal {
-            side: Which::Left,
-            refusal: left,
-        };
-    }
-    if right.number != 0 {
-        return SideRefusal {
-            side: Which::Right,
-            refusal: right,
-        };
-    }
-    if ls != rs {
-        return both(14);
-    }
-    both(0)
-}
-
-// Prepares both sides.
-fn sides_of(ls: u8, left: &[u32], rs: u8, right: &[u32]) -> Sides
-    ensures { λ r. ⌜ Prepares (given ls (now (left .entry)) rs (now (right .entry))) r ⌝ }
-{
-    let on_left = places::prepare(ls, left);
-    let on_right = places::prepare(rs, right);
-    let why = sides_refusal(ls, on_left.refusal, rs, on_right.refusal);
-    let left_side = on_left.side;
-    let right_side = on_right.side;
-    Sides {
-        why: why,
-        left: left_side,
-        right: right_side,
-    }
-}
-
 // Begins a run: writes row 0 and answers the record.
 pub fn start_on(
-    ls: u8,
-    left: &[u32],
-    rs: u8,
-    right: &[u32],
+    asked: Asked,
     lent: usize,
     places: &mut [u8],
     sets: &mut [u64],
     parents: &mut [u16],
     letters: &mut [u16],
 ) -> Called
-    ensures { λ r. ⌜ Starts (given ls (now (left .entry)) rs (now (right .entry))) lent (columns (now (places .entry)) (now (sets .entry)) (now (parents .entry)) (now (letters .entry))) r (columns (now (places .exit)) (now (sets .exit)) (now (parents .exit)) (now (letters .exit))) ⌝ }
+    ensures { λ r. ⌜ Starts asked lent (before places sets parents letters) r (after places sets parents letters) ⌝ }
 {
-    let prepared = sides_of(ls, left, rs, right);
-    let why = prepared.why;
+    let why = asking::why_not(asked);
     if why.refusal.number != 0 {
         return Called::Refused(why);
     }
@@ -545,48 +398,45 @@ pub fn start_on(
     })
 }
 
-// What run and trace begin with, of n rows lent: refusals 1 to 14 of the sides, then 16 of the record and its rows.
-fn open_run(
-    ls: u8,
-    left: &[u32],
-    rs: u8,
-    right: &[u32],
+// Why run and trace are refused, of n rows lent: for the sides, or 16 for the record and its rows; number 0 where they are not.
+fn run_refusal(
+    asked: Asked,
     n: usize,
     places: &[u8],
     sets: &[u64],
     parents: &[u16],
     letters: &[u16],
-    run: Run,
-) -> Opened
-    requires { ⌜ Fits (columns (now places) (now sets) (now parents) (now letters)) 0 (roomOf n) ⌝ }
-    ensures { λ r. ⌜ Opens (given ls (now (left .entry)) rs (now (right .entry))) n (columns (now (places .entry)) (now (sets .entry)) (now (parents .entry)) (now (letters .entry))) run r ⌝ }
+    held: Run,
+) -> SideRefusal
+    requires { ⌜ Fits (here places sets parents letters) 0 (roomOf n) ⌝ }
+    ensures { λ r. ⌜ r ≡ named (runRefusalOn asked n (rowsIn (before places sets parents letters) (held .used)) held) ⌝ }
 {
-    let prepared = sides_of(ls, left, rs, right);
-    let on_left = prepared.left;
-    let on_right = prepared.right;
+    let of_sides = asking::why_not(asked);
+    if of_sides.refusal.number != 0 {
+        return of_sides;
+    }
+    let left = asked.left;
+    let right = asked.right;
     let room = goals::room_of(n);
-    let m = on_left.count;
-    let k = on_right.count;
-    let mut why = prepared.why;
-    if why.refusal.number == 0 {
-        if is_impossible(places, sets, parents, letters, room, ls, m, k, run) {
-            why = both(16);
-        }
+    if is_impossible(
+        places,
+        sets,
+        parents,
+        letters,
+        room,
+        left.s,
+        left.count,
+        right.count,
+        held,
+    ) {
+        return both(16);
     }
-    Opened {
-        why: why,
-        left: on_left,
-        right: on_right,
-        room: room,
-    }
+    of_sides
 }
 
 // Goes on with a run for at most `budget` steps.
 pub fn run_on(
-    ls: u8,
-    left: &[u32],
-    rs: u8,
-    right: &[u32],
+    asked: Asked,
     lent: usize,
     places: &mut [u8],
     sets: &mut [u64],
@@ -595,22 +445,22 @@ pub fn run_on(
     run: Run,
     budget: u64,
 ) -> Called
-    ensures { λ r. ⌜ Runs (given ls (now (left .entry)) rs (now (right .entry))) lent (columns (now (places .entry)) (now (sets .entry)) (now (parents .entry)) (now (letters .entry))) run budget r (columns (now (places .exit)) (now (sets .exit)) (now (parents .exit)) (now (letters .exit))) ⌝ }
+    ensures { λ r. ⌜ Runs asked lent (before places sets parents letters) run budget r (after places sets parents letters) ⌝ }
 {
     let n = goals::shortest(lent, places.len(), sets.len(), parents.len(), letters.len());
-    let opened = open_run(ls, left, rs, right, n, places, sets, parents, letters, run);
-    let why = opened.why;
+    let why = run_refusal(asked, n, places, sets, parents, letters, run);
     if why.refusal.number != 0 {
         return Called::Refused(why);
     }
+    let room = goals::room_of(n);
     let next = run_sides(
         places,
         sets,
         parents,
         letters,
-        opened.room,
-        opened.left,
-        opened.right,
+        room,
+        asked.left,
+        asked.right,
         run,
         budget,
     );
@@ -649,10 +499,7 @@ fn put_trace(parents: &[u16], letters: &[u16], used: usize, row: usize, n: usize
 
 // Writes the letters from row 0 to the refuted row, and answers how many.
 pub fn trace_on(
-    ls: u8,
-    left: &[u32],
-    rs: u8,
-    right: &[u32],
+    asked: Asked,
     lent: usize,
     places: &[u8],
     sets: &[u64],
@@ -661,11 +508,10 @@ pub fn trace_on(
     run: Run,
     out: &mut [u8],
 ) -> Tracing
-    ensures { λ r. ⌜ Traces (given ls (now (left .entry)) rs (now (right .entry))) lent (columns (now (places .entry)) (now (sets .entry)) (now (parents .entry)) (now (letters .entry))) run (now (out .entry)) r (now (out .exit)) ⌝ }
+    ensures { λ r. ⌜ Traces asked lent (before places sets parents letters) run (now (out .entry)) r (now (out .exit)) ⌝ }
 {
     let n = goals::shortest(lent, places.len(), sets.len(), parents.len(), letters.len());
-    let opened = open_run(ls, left, rs, right, n, places, sets, parents, letters, run);
-    let why = opened.why;
+    let why = run_refusal(asked, n, places, sets, parents, letters, run);
     if why.refusal.number != 0 {
         return Tracing::Refused(why);
     }

@@ -5,8 +5,12 @@ pub mod Lent
 pub mod Frames
 pub mod Counting
 pub mod Copying
+pub mod Core
 pub mod Calling
-pub mod Callees
+pub mod Values
+pub mod Lending
 pub mod Loading
-pub mod Tabling
+pub mod Walking
+pub mod Kit
+pub mod Asking
 pub mod Unique

@@ -1,26 +1,72 @@
--- What the calls on rows answer, and what the calls on columns leave for them.
-use Prim.Native.Nat.{ℕ, min}
+-- What the calls on rows answer, what each is to do, and what the calls on columns leave for them.
+use Prim.Native.Nat.{ℕ, _≤_, min}
 use mathlib.Core.Path.{_≡_}
-use mathlib.Core.Bool.{Bool, true, false}
-use mathlib.Core.List.{List, []}
+use mathlib.Core.List.{List, [], _∷_}
+use lib.ListN.{length}
+use denote.Triple.Both.{Both}
+use denote.Ref.{RefT}
+use Rattle.effect.specs.Refusals.{front}
 use Rattle.goals.specs.declared.Row.{Row}
 use Rattle.goals.specs.declared.Run.{Run}
-use Rattle.goals.specs.Refusals.{Given, against, againstOf, Reply}
+use Rattle.goals.specs.Run.{State, started, traceOf}
+use Rattle.goals.specs.Refusals.{Given, given, roomOf, Against, against, againstOf, Reply, exit, leaves}
+use Rattle.asking.specs.declared.Asked.{Asked}
+use Rattle.asking.specs.Asked.{startRefusalOn, runRefusalOn, traceRefusalOn, runAfterOn}
 use Rattle.columns.specs.declared.Called.{Called}
 use Rattle.columns.specs.declared.Called.the-variants as called-variants
-use Rattle.columns.specs.declared.Tracing.{Tracing}
 use Rattle.columns.specs.Calls as core
-use Rattle.columns.specs.Calls.{Columns, lentIn, rowsIn, put, tracing}
-use Rattle.demands.specs.Calls.{Lent, lent, Starts, Runs, Traces}
+use Rattle.columns.specs.Calls.{Columns, Slice}
+use Rattle.demands.specs.Calls.{Lent, lent, usedIn, holding}
 use Rattle.compare.specs.declared.Answered.{Answered}
 use Rattle.compare.specs.declared.Answered.the-variants as answered-variants
+use Rattle.compare.specs.declared.Work.{Work}
+use Rattle.compare.specs.declared.Work.the-variants as work-variants
 use Rattle.compare.specs.declared.Next.{Next}
-use Rattle.compare.specs.declared.Told.{Told}
+
+-- of a contract's references: both sides' s and nodes, and the rows and the record lent, at entry and at exit
+abbrev pub givenIn : ℕ → Both Slice Slice → ℕ → Both Slice Slice → Given
+givenIn ls left rs right = given ls (left .entry .now) rs (right .entry .now)
+
+abbrev pub lentBefore : Both (RefT (List Row)) (RefT (List Row)) → Both (RefT Run) (RefT Run) → Lent
+lentBefore rows held = lent (rows .entry .now) (held .entry .now)
+
+abbrev pub lentAfter : Both (RefT (List Row)) (RefT (List Row)) → Both (RefT Run) (RefT Run) → Lent
+lentAfter rows held = lent (rows .exit .now) (held .exit .now)
+
+-- the table and each column have n rows or more
+abbrev pub Reaches : ℕ → List Row → Columns → Type 0
+Reaches n rows c =
+    (n ≤ length rows) × (n ≤ length (c .places)) × (n ≤ length (c .sets)) × (n ≤ length (c .parents)) × (n ≤ length (c .letters))
 
 -- the number of each case of what start and run answer, with no values: the record tells them
 unfoldable pub answered : Answered → Reply
 answered answered-variants.Accepted = record { refusal = against 0 0; values = [] }
 answered (answered-variants.Refused why) = record { refusal = againstOf why; values = [] }
+
+-- Start and run on any two sides by value: the refusal of each, and the state that it leaves.
+unfoldable pub workRefusal : Work → Asked → Lent → Against
+workRefusal work-variants.Start a l = startRefusalOn a (length (l .rows))
+workRefusal (work-variants.Run budget) a l = runRefusalOn a (length (l .rows)) (usedIn l) (l .held)
+
+unfoldable pub workAfter : Work → Asked → Lent → State
+workAfter work-variants.Start a l = started
+workAfter (work-variants.Run budget) a l = runAfterOn a (length (l .rows)) (usedIn l) (l .held) budget
+
+-- the promise of `call`
+abbrev pub Works : Work → Asked → Lent → Reply → Lent → Type 0
+Works work a l reply l′ = exit reply l′ ≡ leaves (workRefusal work a l) [] (holding (workAfter work a l) l) l
+
+-- The promise of `trace_asked`, on any two sides by value.
+abbrev pub TracesAsked : Asked → Lent → List ℕ → Reply → List ℕ → Type 0
+TracesAsked a l out reply out′ =
+    let word = traceOf (usedIn l) (l .held .settled) in
+    exit reply out′
+    ≡ leaves (traceRefusalOn a (length (l .rows)) (usedIn l) (l .held) (length out)) (length word ∷ []) (front word out) out
+
+-- how many rows a call loads: start none, run those used, and no more than the room has
+unfoldable pub toLoad : Work → ℕ → ℕ → ℕ
+toLoad work-variants.Start used lent = 0
+toLoad (work-variants.Run budget) used lent = min (roomOf lent) used
 
 -- what a call on columns answered, for the rows: accepted, its record and as many rows as it uses; refused, the record lent and none
 unfoldable pub nextOf : Called → Run → Next
@@ -28,26 +74,9 @@ nextOf (called-variants.Accepted r) held = record { run = r; rows = r .used; ans
 nextOf (called-variants.Refused why) held = record { run = held; rows = 0; answer = answered-variants.Refused why }
 
 -- the calls on columns, for the rows
-abbrev pub StartsOn : Given → ℕ → Columns → Run → Next → Columns → Type 0
-StartsOn g lent c held r c′ = (answer : Called) × core.Starts g lent c answer c′ × (r ≡ nextOf answer held)
+unfoldable pub WorksIn : Work → Asked → ℕ → Columns → Run → Called → Columns → Type 0
+WorksIn work-variants.Start a lent c held answer c′ = core.Starts a lent c answer c′
+WorksIn (work-variants.Run budget) a lent c held answer c′ = core.Runs a lent c held budget answer c′
 
-abbrev pub RunsOn : Given → ℕ → Columns → Run → ℕ → Next → Columns → Type 0
-RunsOn g lent c held budget r c′ = (answer : Called) × core.Runs g lent c held budget answer c′ × (r ≡ nextOf answer held)
-
--- start, where the run begins, or else a run call
-unfoldable pub StartsOrRuns : Bool → Given → Lent → ℕ → Reply → Lent → Type 0
-StartsOrRuns true g l budget reply l′ = Starts g l reply l′
-StartsOrRuns false g l budget reply l′ = Runs g l budget reply l′
-
--- The table that a call owns and makes of columns: the rows lent in them, and no more than 65,536.
-abbrev pub tableIn : ℕ → Columns → List Row
-tableIn n c = rowsIn c (min 65536 (lentIn n c))
-
--- the calls on that table: what is told is what the call on its rows and the record answers and leaves, and the rows that it leaves are
--- at the front of the columns, "the other rows stay"
-abbrev pub CallsTable : Bool → Given → ℕ → Columns → Run → ℕ → Told → Columns → Type 0
-CallsTable begins g n c held budget r c′ =
-    (rows′ : List Row) × StartsOrRuns begins g (lent (tableIn n c) held) budget (answered (r .answer)) (lent rows′ (r .run)) × (c′ ≡ put rows′ c)
-
-abbrev pub TracesTable : Given → ℕ → Columns → Run → List ℕ → Tracing → List ℕ → Type 0
-TracesTable g n c held out r out′ = Traces g (lent (tableIn n c) held) out (tracing r) out′
+abbrev pub WorksOn : Work → Asked → ℕ → Columns → Run → Next → Columns → Type 0
+WorksOn work a lent c held r c′ = (answer : Called) × WorksIn work a lent c held answer c′ × (r ≡ nextOf answer held)

@@ -18,7 +18,6 @@ pub mod Closing
 pub mod Room
 pub mod Going
 pub mod Dividing
-pub mod Core
 pub mod OneCall
 pub mod Worked
 pub mod Meeting

@@ -3,7 +3,7 @@ use mathlib.Core.Path.{refl}
 use Rattle.bits.specs.Bit.{bit}
 use Rattle.effect.specs.Node.{kindOf, decodeOf, fieldsOf, numberOf}
 use Rattle.effect.specs.Refusals.{lowest, lowestNode, someBelow, someChild, claimed, namesBeyond, twins, nodeRefusal, oneIfInstant, instants, refusalAt, tableRefusal, sideRefusal}
-use Rattle.places.specs.Places.{place, numberedNode, numberedTo, rounds, hasEmpty, firstOf, lastOf, followOf, after, accepting}
+use Rattle.places.specs.Places.{place, numberedNode, numberedTo, rounds, hasEmpty, firstOf, lastOf, linksTo, after, accepting}
 use Rattle.places.specs.Side.{listOf, maskIn, masksTo, sideOf}
 use Rattle.places.specs.Readings.{matchingTo, spreadTo}
 use Rattle.goals.specs.Goals.{badGoal, eachMember, eachLetter, candidates, known, enter, enterAll}
@@ -12,7 +12,7 @@ use Rattle.goals.specs.Refusals.{roomOf, recordImpossible, rowZeroImposs
 use Rattle.goals.specs.Cases.{comparisons, Gives, Each}
 
 pub worked : Each Gives comparisons
-unfolding Each bit kindOf decodeOf fieldsOf numberOf lowest lowestNode someBelow someChild claimed namesBeyond twins nodeRefusal oneIfInstant instants refusalAt tableRefusal sideRefusal place numberedNode numberedTo rounds hasEmpty firstOf lastOf followOf after accepting listOf maskIn masksTo sideOf matchingTo spreadTo badGoal eachMember eachLetter candidates known enter enterAll settle step steps run wordIn roomOf recordImpossible rowZeroImpossible rowImpossible impossible first startRefusal runRefusal runAfter
+unfolding Each bit kindOf decodeOf fieldsOf numberOf lowest lowestNode someBelow someChild claimed namesBeyond twins nodeRefusal oneIfInstant instants refusalAt tableRefusal sideRefusal place numberedNode numberedTo rounds hasEmpty firstOf lastOf linksTo after accepting listOf maskIn masksTo sideOf matchingTo spreadTo badGoal eachMember eachLetter candidates known enter enterAll settle step steps run wordIn roomOf recordImpossible rowZeroImpossible rowImpossible impossible first startRefusal runRefusal runAfter
 worked = (
   record { starts = refl; runs = refl; shows = refl },
   (

@@ -95,30 +95,43 @@ sideRules g =
     ∷ against 3 (rule 14 (not (eqb (g .ls) (g .rs))))
     ∷ []
 
+-- the rules of the two sides, then the rest, naming both
+abbrev pub refusalBy : List Against → List ℕ → Against
+refusalBy sides rest = first (sides ++ map (against 3) rest)
+
 abbrev pub refusalOf : Given → List ℕ → Against
-refusalOf g rest = first (sideRules g ++ map (against 3) rest)
+refusalOf g rest = refusalBy (sideRules g) rest
 
--- 15: "start with a row table of no rows"
-unfoldable pub startRefusal : Given → ℕ → Against
-startRefusal g lent = refusalOf g (rule 15 (eqb lent 0) ∷ [])
+-- What each call asks once the sides pass. 15: "start with a row table of no rows"
+abbrev pub startRules : ℕ → List ℕ
+startRules lent = rule 15 (eqb lent 0) ∷ []
 
--- 16 for the two sides given: the rows lent, the used rows and the record
-abbrev pub impossibleFor : Given → ℕ → List Row → Run → Bool
-impossibleFor g lent rows r = impossible (g .ls) (leftOf g .count) (rightOf g .count) (roomOf lent) rows r
+-- 16 for two sides of s signals, m and k instants: the rows lent, the used rows and the record
+abbrev pub runRules : ℕ → ℕ → ℕ → ℕ → List Row → Run → List ℕ
+runRules s m k lent rows r = rule 16 (impossible s m k (roomOf lent) rows r) ∷ []
 
-unfoldable pub runRefusal : Given → ℕ → List Row → Run → Against
-runRefusal g lent rows r = refusalOf g (rule 16 (impossibleFor g lent rows r) ∷ [])
-
--- for a buffer of that many bytes
-unfoldable pub traceRefusal : Given → ℕ → List Row → Run → ℕ → Against
-traceRefusal g lent rows r buffer =
-    refusalOf g
-    (rule 16 (impossibleFor g lent rows r)
+-- and for a buffer of that many bytes
+abbrev pub traceRules : ℕ → ℕ → ℕ → ℕ → List Row → Run → ℕ → List ℕ
+traceRules s m k lent rows r buffer =
+    rule 16 (impossible s m k (roomOf lent) rows r)
     -- "trace asked of a run not refuted"
     ∷ rule 17 (not (eqb (r .outcome) 2))
     -- "trace buffer shorter than the trace"
     ∷ rule 18 (ltb buffer (length (traceOf rows (r .settled))))
-    ∷ [])
+    ∷ []
+
+-- The same of two tables.
+unfoldable pub startRefusal : Given → ℕ → Against
+startRefusal g lent = refusalOf g (startRules lent)
+
+abbrev pub impossibleFor : Given → ℕ → List Row → Run → Bool
+impossibleFor g lent rows r = impossible (g .ls) (leftOf g .count) (rightOf g .count) (roomOf lent) rows r
+
+unfoldable pub runRefusal : Given → ℕ → List Row → Run → Against
+runRefusal g lent rows r = refusalOf g (runRules (g .ls) (leftOf g .count) (rightOf g .count) lent rows r)
+
+unfoldable pub traceRefusal : Given → ℕ → List Row → Run → ℕ → Against
+traceRefusal g lent rows r buffer = refusalOf g (traceRules (g .ls) (leftOf g .count) (rightOf g .count) lent rows r buffer)
 
 -- the side that a refusal names, and the refusal as above
 unfoldable pub sideNumber : Which → ℕ

@@ -8,7 +8,7 @@ pub mod ByPlace
 pub mod Theorems
 pub mod Links
 pub mod Laws
-pub mod Walks
+pub mod ByNode
 pub mod Made
 pub mod Letters
 pub mod Matched

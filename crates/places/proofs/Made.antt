@@ -1,14 +1,14 @@
--- The side of an accepted table is what the survey and the walk make of it.
+-- The side of an accepted table is what the survey, the ends of the root and the follow sets make of it.
 use Prim.Native.Nat.{ℕ, _-_, _≤_, _<_}
-use mathlib.Core.Path.{_≡_, refl, sym, ap, ap₂, subst, _∙_}
+use mathlib.Core.Path.{_≡_, refl, sym, ap, subst, _∙_}
 use mathlib.Core.Bool.{Bool, cond}
 use mathlib.Core.Logic.{_≢_}
 use mathlib.Core.List.{List, [], _∷_}
 use native.Mathlib.Decide.{ℕ-discrete}
 use native.Mathlib.Omega.{arith}
-use lib.Bits.{bitOr, or-zero-l}
+use lib.Bits.{bitOr}
 use lib.Dec.{eqb}
-use lib.ListN.{length, getD, set, take, replicate, length-map, length-set, getD-replicate}
+use lib.ListN.{length, getD, set, take, length-map, length-set}
 use lib.Seq.{ext-getD, getD-take, getD-set-same, getD-set-other, length-take-le}
 use borrow.Author.Tests.{ne-eqb, eq-eqb}
 use Rattle.effect.specs.declared.Node.{Node}
@@ -26,11 +26,11 @@ use Rattle.effect.proofs.Accepted.{accepted-iff}
 use Rattle.places.specs.declared.Side.{Side}
 use Rattle.places.specs.declared.Masks.{Masks}
 use Rattle.places.specs.declared.Ends.{Ends}
-use Rattle.places.specs.Places.{place, numbered, hasEmpty, firstOf, lastOf, followOf, after, accepting}
+use Rattle.places.specs.Places.{place, numbered, firstOf, linksTo, after, accepting}
 use Rattle.places.specs.Side.{listOf, sideOf, noSide, prepareOf}
-use Rattle.places.specs.Walk.{tableOf, Walkable, Walks, Holds, Numbers, Surveyable}
+use Rattle.places.specs.Walk.{tableOf, Walkable, endsOf, linkedTo, Holds, Numbers, Surveyable}
 use Rattle.places.proofs.Rows.{numbered-length, numbered-at, numbered-below, numbered-instant}
-use Rattle.places.proofs.ByPlace.{listOf-length, listOf-at}
+use Rattle.places.proofs.ByPlace.{listOf-length, listOf-at, list-is}
 use Rattle.places.proofs.Laws.{table-at, count-instants}
 
 table-length : (ns : List ℕ) → length (tableOf ns) ≡ length ns
@@ -78,25 +78,30 @@ module _ (s : ℕ) (ns : List ℕ) (w : WellFormed s (decodings ns)) where
       same-node : (i : ℕ) → i < length ns → at (tableOf (take (length ns) sk)) i ≡ at (numbered t) i
       same-node i g = table-at (take (length ns) sk) i ∙ ap (λ (x : ℕ). nodeOf (decodeOf x)) (getD-take (length ns) sk i 0 g) ∙ ap nodeOf (h i g) ∙ sym (numbered-at t i)
 
-  module _ (m : Masks) (x : Ends) (follow : List ℕ) (o : ℕ) (hm : Holds t (length ns) m) (hx : Walks (numbered t) (length ns - 1) (replicate 64 0) x follow)
-      (ho : o ≡ cond (x .empty) 1 0) (size : length follow ≡ 64) where
-    root-is : length ns - 1 ≡ root (numbered t)
-    root-is = ap (λ (n : ℕ). n - 1) (sym (numbered-length t ∙ table-length ns))
+  module _ (m : Masks) (x : Ends) (follow : List ℕ) (o : ℕ) (hm : Holds t (length ns) m) (hx : x ≡ endsOf (numbered t) (length ns - 1))
+      (hf : follow ≡ linkedTo (numbered t) (length ns)) (ho : o ≡ cond (x .empty) 1 0) where
+    all-nodes : length ns ≡ length (numbered t)
+    all-nodes = sym (numbered-length t ∙ table-length ns)
+
+    ends-root : x ≡ endsOf (numbered t) (root (numbered t))
+    ends-root = hx ∙ ap (λ (n : ℕ). endsOf (numbered t) (n - 1)) all-nodes
+
+    size : length follow ≡ 64
+    size = ap length hf ∙ listOf-length 64 _
 
     follow-made : set follow 0 (x .first) ≡ listOf 64 (after (numbered t))
     unfolding after
-    follow-made = ext-getD 0 _ _ (length-set follow 0 (x .first) ∙ size ∙ sym (listOf-length 64 (after (numbered t))))
-        (λ j l. go j (rw (length-set, size) at l) (ℕ-discrete j 0) ∙ sym (listOf-at 64 (after (numbered t)) j (rw (length-set, size) at l)))
+    follow-made = list-is _ 64 _ (length-set follow 0 (x .first) ∙ size) (λ j l. go j l (ℕ-discrete j 0))
       where
-        go : (j : ℕ) → j < 64 → Dec (j ≡ 0) → getD (set follow 0 (x .first)) j 0 ≡ cond (eqb j 0) (firstOf (numbered t) (root (numbered t))) (followOf (numbered t) j (root (numbered t)))
-        go j l (yes e) = rw e (getD-set-same follow 0 (x .first) 0 (omega arith) ∙ hx .first ∙ ap (firstOf (numbered t)) root-is)
+        go : (j : ℕ) → j < 64 → Dec (j ≡ 0) → getD (set follow 0 (x .first)) j 0 ≡ cond (eqb j 0) (firstOf (numbered t) (root (numbered t))) (linksTo (numbered t) j (length (numbered t)))
+        go j l (yes e) = rw e (getD-set-same follow 0 (x .first) 0 (omega (arith, size)) ∙ ap (λ (y : Ends). y .first) ends-root)
         go j l (no e) = rw (ne-eqb j 0 e)
-            (getD-set-other follow 0 j (x .first) 0 e ∙ hx .follow j l ∙ ap (λ (z : ℕ). bitOr z (followOf (numbered t) j (length ns - 1))) (getD-replicate 64 j 0 0 l)
-            ∙ or-zero-l (followOf (numbered t) j (length ns - 1)) ∙ ap (followOf (numbered t) j) root-is)
+            (getD-set-other follow 0 j (x .first) 0 e ∙ ap (λ (xs : List ℕ). getD xs j 0) hf ∙ listOf-at 64 (λ j. linksTo (numbered t) j (length ns)) j l
+            ∙ ap (linksTo (numbered t) j) all-nodes)
 
     accepts-made : bitOr (x .last) o ≡ accepting (numbered t)
     unfolding accepting
-    accepts-made = ap₂ bitOr (hx .last ∙ ap (lastOf (numbered t)) root-is) (ho ∙ ap (λ (b : Bool). cond b 1 0) (hx .empty ∙ ap (hasEmpty (numbered t)) root-is))
+    accepts-made = ap (bitOr (x .last)) ho ∙ ap (λ (y : Ends). bitOr (y .last) (cond (y .empty) 1 0)) ends-root
 
     pub side-made : record { s = s; count = m .count; present = m .present; absent = m .absent; accepts = bitOr (x .last) o; follow = set follow 0 (x .first) } ≡ sideOf s t
     unfolding sideOf

@@ -5,14 +5,17 @@ use mathlib.Core.List.{List}
 use Rattle.places.specs.declared.Side.{Side}
 use Rattle.places.specs.declared.Prepared.{Prepared}
 use Rattle.places.specs.declared.Naming.{Naming}
-use Rattle.places.specs.Side.{prepareOf}
+use Rattle.places.specs.Side.{noSide, prepareOf}
 use Rattle.places.specs.Matching.{namingOf, matchingBy}
 
 pub prepare-one : (s : ℕ) (ns : List ℕ) (r r′ : Prepared) → r ≡ prepareOf s ns → r′ ≡ prepareOf s ns → r ≡ r′
 prepare-one s ns r r′ e f = e ∙ sym f
 
+pub no-side-one : (r r′ : Side) → r ≡ noSide → r′ ≡ noSide → r ≡ r′
+no-side-one r r′ e f = e ∙ sym f
+
 pub naming-one : (sd : Side) (r r′ : Naming) → r ≡ namingOf sd → r′ ≡ namingOf sd → r ≡ r′
 naming-one sd r r′ e f = e ∙ sym f
 
-pub matching-one : (naming : Naming) (s count x r r′ : ℕ) → r ≡ matchingBy naming s count x → r′ ≡ matchingBy naming s count x → r ≡ r′
-matching-one naming s count x r r′ e f = e ∙ sym f
+pub matching-one : (naming : Naming) (s x r r′ : ℕ) → r ≡ matchingBy naming s x → r′ ≡ matchingBy naming s x → r ≡ r′
+matching-one naming s x r r′ e f = e ∙ sym f

@@ -4,20 +4,19 @@ use effect::Decoded;
 use effect::Node;
 use effect::Refusal;
 ghost use mathlib.Core.Path.{_≡_};
-ghost use mathlib.Core.Bool.{Bool, cond};
-ghost use mathlib.Core.List.{List, _++_};
-ghost use Prim.Native.Nat.{ℕ, _+_, _<_, _≤_};
-ghost use lib.Bits.{bitOr};
+ghost use mathlib.Core.Bool.{cond};
+ghost use Prim.Native.Nat.{_+_, _<_, _≤_, min};
 ghost use lib.ListN.{length, getD};
 ghost use Rattle.bits.specs.Bit.{has};
 ghost use Rattle.effect.specs.Node.{decodeOf, decodings};
 ghost use Rattle.effect.specs.Meaning.{at};
-ghost use Rattle.effect.specs.Refusals.{oneIfInstant, instants};
+ghost use Rattle.effect.specs.Refusals.{oneIfInstant};
 ghost use Rattle.effect.specs.WellFormed.{WellFormed};
 ghost use Rattle.places.specs.Places.{numberedNode};
-ghost use Rattle.places.specs.Side.{presentIn, absentIn, byPlace, sideOf, noSide, prepareOf, listOf};
-ghost use Rattle.places.specs.Walk.{tableOf, Walkable, Walks, Holds, Numbers, Surveyable};
-ghost use Rattle.places.specs.Matching.{namingTo, bySignal, namingOf, placesTo, without, leftTo, matchingBy};
+ghost use Rattle.places.specs.Side.{presentIn, absentIn, sideOf, noSide, prepareOf};
+ghost use Rattle.places.specs.Walk.{tableOf, Walkable, endsBy, endsOf, sequenceEnds, choiceEnds, grown, linkAt, linkedTo};
+ghost use Rattle.places.specs.Walk.{Adds, Holds, Numbers, Surveyable};
+ghost use Rattle.places.specs.Matching.{namingTo, aliveTo, bySignal, namingOf, matchingBy};
 
 // What a comparison needs of a side, by place: s, the number of instants, their masks, the places that accept (bit j for
 // place j), and for each place those that may follow. Entries of no place are 0.
@@ -36,13 +35,14 @@ pub struct Prepared {
     pub side: Side,
 }
 
-// For each signal, the places that name it present and those that name it absent.
+// The places that some letter can match; and for each signal, those that name it present and those that name it absent.
 pub struct Naming {
+    pub alive: u64,
     pub present: [u64; 16],
     pub absent: [u64; 16],
 }
 
-// What the walk over a node answers: whether it has the empty trace, and its first and last places.
+// Of a node: whether it has the empty trace, and its first and last places.
 struct Ends {
     empty: bool,
     first: u64,
@@ -76,35 +76,48 @@ fn only_if(b: bool, x: u64) -> u64
     if b { x } else { 0 }
 }
 
-// After each place of `last` the places of `first` may follow too.
-fn join(follow: &mut [u64], last: u64, first: u64)
-    requires { ⌜ length (now follow) ≡ 64 ⌝ }
-    ensures { λ _. ⌜ ((j : ℕ) → j < 64 → getD (now (follow .exit)) j 0 ≡ bitOr (getD (now (follow .entry)) j 0) (cond (has last j) first 0)) ⌝ }
+// The ends of a node without an instant: no place is first or last.
+fn no_places(empty: bool) -> Ends
+    ensures { λ r. ⌜ r ≡ endsBy empty 0 0 ⌝ }
 {
-    let mut j: usize = 0;
-    while j < 64 {
-        follow[j] = follow[j] | only_if(bits::has(last, j as u64), first);
-        j += 1;
+    Ends {
+        empty: empty,
+        first: 0,
+        last: 0,
     }
 }
 
-// The node i of a numbered table and all below it, each visited once. What these nodes add to the follow sets is written to the one
-// array that all share: a walk may be 255 nodes deep, and a copy in each would take a megabyte of stack.
-fn walk(nodes: &[u32], i: usize, follow: &mut [u64]) -> Ends
-    requires { ⌜ Walkable (tableOf (now nodes)) × (length (now follow) ≡ 64) ⌝ }
-    ensures { λ r. ⌜ Walks (tableOf (now (nodes .entry))) i (now (follow .entry)) r (now (follow .exit)) ⌝ }
+// The ends of a sequence, given those of its 1st and of its 2nd part.
+fn sequence_ends(x: Ends, y: Ends) -> Ends
+    ensures { λ r. ⌜ r ≡ sequenceEnds x y ⌝ }
+{
+    Ends {
+        empty: x.empty & y.empty,
+        first: x.first | only_if(x.empty, y.first),
+        last: y.last | only_if(y.empty, x.last),
+    }
+}
+
+// The ends of a choice, given those of its two parts.
+fn choice_ends(x: Ends, y: Ends) -> Ends
+    ensures { λ r. ⌜ r ≡ choiceEnds x y ⌝ }
+{
+    Ends {
+        empty: x.empty | y.empty,
+        first: x.first | y.first,
+        last: x.last | y.last,
+    }
+}
+
+// Whether node i of a numbered table has the empty trace, and its first and last places. Children are lower nodes, and so
+// this ends. It may be 255 nodes deep: the follow sets, half a kilobyte, are not handed down.
+fn ends_of(nodes: &[u32], i: usize) -> Ends
+    requires { ⌜ Walkable (tableOf (now nodes)) ⌝ }
+    ensures { λ r. ⌜ r ≡ endsOf (tableOf (now (nodes .entry))) i ⌝ }
 {
     match node_at(nodes, i) {
-        Node::Nil => Ends {
-            empty: false,
-            first: 0,
-            last: 0,
-        },
-        Node::Empty => Ends {
-            empty: true,
-            first: 0,
-            last: 0,
-        },
+        Node::Nil => no_places(false),
+        Node::Empty => no_places(true),
         Node::Instant(j, _) => {
             let place = bits::single(j as u64);
             Ends {
@@ -114,27 +127,17 @@ fn walk(nodes: &[u32], i: usize, follow: &mut [u64]) -> Ends
             }
         },
         Node::Seq(a, b) => {
-            let x = walk(nodes, a as usize, follow);
-            let y = walk(nodes, b as usize, follow);
-            join(follow, x.last, y.first);
-            Ends {
-                empty: x.empty & y.empty,
-                first: x.first | only_if(x.empty, y.first),
-                last: y.last | only_if(y.empty, x.last),
-            }
+            let x = ends_of(nodes, a as usize);
+            let y = ends_of(nodes, b as usize);
+            sequence_ends(x, y)
         },
         Node::Choice(a, b) => {
-            let x = walk(nodes, a as usize, follow);
-            let y = walk(nodes, b as usize, follow);
-            Ends {
-                empty: x.empty | y.empty,
-                first: x.first | y.first,
-                last: x.last | y.last,
-            }
+            let x = ends_of(nodes, a as usize);
+            let y = ends_of(nodes, b as usize);
+            choice_ends(x, y)
         },
         Node::Repeat(a) => {
-            let x = walk(nodes, a as usize, follow);
-            join(follow, x.last, x.first);
+            let x = ends_of(nodes, a as usize);
             Ends {
                 empty: true,
                 first: x.first,
@@ -144,12 +147,62 @@ fn walk(nodes: &[u32], i: usize, follow: &mut [u64]) -> Ends
     }
 }
 
+// The follow sets, and after each place of `last` the places of `first` too.
+fn joined(follow: [u64; 64], last: u64, first: u64) -> [u64; 64]
+    ensures { λ r. ⌜ r ≡ grown follow (λ j. cond (has last j) first 0) ⌝ }
+{
+    let mut r: [u64; 64] = [0; 64];
+    let mut j: usize = 0;
+    while j < 64 {
+        r[j] = follow[j] | only_if(bits::has(last, j as u64), first);
+        j += 1;
+    }
+    r
+}
+
+// The follow sets with what node i of a numbered table adds.
+fn linked(follow: [u64; 64], nodes: &[u32], i: usize) -> [u64; 64]
+    requires { ⌜ Walkable (tableOf (now nodes)) ⌝ }
+    ensures { λ r. ⌜ r ≡ grown follow (linkAt (tableOf (now (nodes .entry))) i) ⌝ }
+{
+    match node_at(nodes, i) {
+        Node::Nil => follow,
+        Node::Empty => follow,
+        Node::Instant(_, _) => follow,
+        Node::Seq(a, b) => {
+            let x = ends_of(nodes, a as usize);
+            let y = ends_of(nodes, b as usize);
+            joined(follow, x.last, y.first)
+        },
+        Node::Choice(_, _) => follow,
+        Node::Repeat(a) => {
+            let x = ends_of(nodes, a as usize);
+            joined(follow, x.last, x.first)
+        },
+    }
+}
+
+// For each place those that may follow it, as every node of a numbered table adds them.
+fn follow_sets(nodes: &[u32]) -> [u64; 64]
+    requires { ⌜ Walkable (tableOf (now nodes)) ⌝ }
+    ensures { λ r. ⌜ r ≡ linkedTo (tableOf (now (nodes .entry))) (length (now (nodes .entry))) ⌝ }
+{
+    let mut follow: [u64; 64] = [0; 64];
+    let mut i: usize = 0;
+    while i < nodes.len() {
+        let more = linked(follow, nodes, i);
+        follow = more;
+        i += 1;
+    }
+    follow
+}
+
 // The masks with those of one node more.
 fn with_masks(m: Masks, node: Node) -> Masks
     requires { ⌜ m .count + oneIfInstant node ≤ 63 ⌝ }
     ensures count { λ r. ⌜ r .count ≡ m .count + oneIfInstant node ⌝ }
-    ensures present { λ r. ⌜ ((xs : List ℕ) → length xs ≡ m .count → m .present ≡ byPlace xs → r .present ≡ byPlace (xs ++ presentIn node)) ⌝ }
-    ensures absent { λ r. ⌜ ((xs : List ℕ) → length xs ≡ m .count → m .absent ≡ byPlace xs → r .absent ≡ byPlace (xs ++ absentIn node)) ⌝ }
+    ensures present { λ r. ⌜ Adds (m .count) (m .present) (presentIn node) (r .present) ⌝ }
+    ensures absent { λ r. ⌜ Adds (m .count) (m .absent) (absentIn node) (r .absent) ⌝ }
 {
     match node {
         Node::Nil => m,
@@ -218,8 +271,8 @@ fn side_of(s: u8, nodes: &[u32]) -> Side
     let n = nodes.len();
     let mut skeleton: [u32; 255] = [0; 255];
     let masks = survey(nodes, &mut skeleton);
-    let mut follow: [u64; 64] = [0; 64];
-    let ends = walk(&skeleton[..n], n - 1, &mut follow);
+    let ends = ends_of(&skeleton[..n], n - 1);
+    let mut follow = follow_sets(&skeleton[..n]);
     follow[0] = ends.first;
     let present = masks.present;
     let absent = masks.absent;
@@ -234,7 +287,7 @@ fn side_of(s: u8, nodes: &[u32]) -> Side
 }
 
 // The side of nothing, which goes with a refusal.
-fn no_side() -> Side
+pub fn no_side() -> Side
     ensures { λ r. ⌜ r ≡ noSide ⌝ }
 {
     Side {
@@ -278,7 +331,7 @@ fn mask_at(masks: [u16; 64], j: usize) -> u64
 
 // The places among 1 to count whose mask names the signal i.
 fn naming_at(masks: [u16; 64], i: u64, count: usize) -> u64
-    requires { ⌜ count < 256 ⌝ }
+    requires { ⌜ count < 64 ⌝ }
     ensures { λ r. ⌜ r ≡ namingTo masks i count ⌝ }
 {
     let mut r: u64 = 0;
@@ -294,7 +347,7 @@ fn naming_at(masks: [u16; 64], i: u64, count: usize) -> u64
 
 // For each of 16 signals, the places among 1 to count whose mask names it.
 fn by_signal(masks: [u16; 64], count: usize) -> [u64; 16]
-    requires { ⌜ count < 256 ⌝ }
+    requires { ⌜ count < 64 ⌝ }
     ensures { λ r. ⌜ r ≡ bySignal masks count ⌝ }
 {
     let mut r: [u64; 16] = [0; 16];
@@ -306,29 +359,43 @@ fn by_signal(masks: [u16; 64], count: usize) -> [u64; 16]
     r
 }
 
-// For each signal, the places that name it present and those that name it absent.
+// The places among 1 to count whose present mask names no signal at s or above.
+fn alive_to(present: [u16; 64], s: u8, count: usize) -> u64
+    requires { ⌜ count < 64 ⌝ }
+    ensures { λ r. ⌜ r ≡ aliveTo present s count ⌝ }
+{
+    let mut r: u64 = 0;
+    let mut k: usize = 0;
+    while k < count {
+        let j = k + 1;
+        let can = bits::within(mask_at(present, j), s as u64);
+        r = r | only_if(can, bits::single(j as u64));
+        k = j;
+    }
+    r
+}
+
+// The count of places, of which there are 63 at most.
+fn at_most_63(count: u8) -> usize
+    ensures { λ r. ⌜ r ≡ min count 63 ⌝ }
+{
+    if count < 63 { count as usize } else { 63 }
+}
+
+// The places that some letter can match; and for each signal, those that name it present and those that name it absent.
 pub fn naming_of(side: Side) -> Naming
     ensures { λ r. ⌜ r ≡ namingOf side ⌝ }
 {
-    let count = side.count as usize;
+    let count = at_most_63(side.count);
     let present = side.present;
     let absent = side.absent;
+    let alive = alive_to(present, side.s, count);
     let by_present = by_signal(present, count);
     let by_absent = by_signal(absent, count);
     Naming {
+        alive: alive,
         present: by_present,
         absent: by_absent,
-    }
-}
-
-// The places 1 to count, of which there are 63 at most.
-fn places_to(count: u8) -> u64
-    ensures { λ r. ⌜ r ≡ placesTo count ⌝ }
-{
-    if count < 63 {
-        bits::single(count as u64 + 1) - 2
-    } else {
-        18446744073709551614
     }
 }
 
@@ -352,12 +419,12 @@ fn taken_away(naming: Naming, x: u16, i: usize) -> u64
     }
 }
 
-// The places of a side of s signals and count instants that match the letter x.
-pub fn matching(naming: Naming, s: u8, count: u8, x: u16) -> u64
-    ensures { λ r. ⌜ r ≡ matchingBy naming s count x ⌝ }
+// The places of a side of s signals that match the letter x.
+pub fn matching(naming: Naming, s: u8, x: u16) -> u64
+    ensures { λ r. ⌜ r ≡ matchingBy naming s x ⌝ }
 {
     let n = s as usize;
-    let mut r = places_to(count);
+    let mut r = naming.alive;
     let mut i: usize = 0;
     while i < n {
         let away = taken_away(naming, x, i);

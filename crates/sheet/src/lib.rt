@@ -169,7 +169,10 @@ fn sheet_byte(s: u8, nodes: &[u32], k: usize) -> u8
 // Puts the sheet of s and the nodes at the front of the output, or refuses it as too short (13).
 fn put_sheet(s: u8, nodes: &[u32], out: &mut [u8]) -> Writing
     requires { ⌜ length (now nodes) ≤ 255 ⌝ }
-    ensures { λ r. ⌜ exit (writing r) (now (out .exit)) ≡ left (rule 13 (ltb (length (now (out .entry))) (sheetLength (length (now (nodes .entry)))))) (sheetLength (length (now (nodes .entry))) ∷ []) (sheetOf s (now (nodes .entry))) (now (out .entry)) ⌝ }
+    ensures { λ r.
+        let size = sheetLength (length (now (nodes .entry))) in
+        let short = rule 13 (ltb (length (now (out .entry))) size) in
+        ⌜ exit (writing r) (now (out .exit)) ≡ left short (size ∷ []) (sheetOf s (now (nodes .entry))) (now (out .entry)) ⌝ }
 {
     let length = length_of(nodes.len());
     if out.len() < length {

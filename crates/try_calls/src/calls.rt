@@ -1,14 +1,17 @@
 // The calls of a record, and the line of each answer.
 use crate::at;
+use crate::forge;
 use crate::hex;
 use crate::print;
 use crate::rows;
+use asking::Asked;
 use columns::Called;
 use columns::Tracing;
 use compare::Answered;
-use compare::Told;
+use compare::Work;
 use goals::Row;
 use goals::Run;
+use own_table::Told;
 ghost use mathlib.Core.Path.{_≡_};
 ghost use lib.ListN.{length};
 
@@ -35,17 +38,19 @@ const RUN_ON_ROWS: u32 = 9;
 
 const TRACE_ON_ROWS: u32 = 10;
 
+const FORGE_SIDE: u32 = 11;
+
+const FORGE_WHY: u32 = 12;
+
 // A number that is no call's.
-const NO_CALL: u32 = 11;
+const NO_CALL: u32 = 13;
 
 // As many letters as the buffer of a trace call has room for.
 const LONGEST_TRACE: u32 = 512;
 
-// What a call is made on besides the nodes and the columns: the s of each side, how many rows are lent, and
-// the record of the run.
+// What a call is made on besides the columns: both sides, how many rows are lent, and the record of the run.
 pub(crate) struct State {
-    pub(crate) ls: u8,
-    pub(crate) rs: u8,
+    pub(crate) asked: Asked,
     pub(crate) lent: usize,
     pub(crate) run: Run,
 }
@@ -66,21 +71,31 @@ struct Call {
 
 // The same with another record.
 fn with_run(state: State, run: Run) -> State {
+    let asked = state.asked;
     State {
-        ls: state.ls,
-        rs: state.rs,
+        asked: asked,
+        lent: state.lent,
+        run: run,
+    }
+}
+
+// The same with other sides.
+fn with_asked(state: State, asked: Asked) -> State {
+    let run = state.run;
+    State {
+        asked: asked,
         lent: state.lent,
         run: run,
     }
 }
 
 // Forges the record, or lends another number of rows from here on.
-fn forge(state: State, call: Call) -> State {
+fn forge_run(state: State, call: Call) -> State {
     let run = state.run;
+    let asked = state.asked;
     if call.kind == LEND {
         return State {
-            ls: state.ls,
-            rs: state.rs,
+            asked: asked,
             lent: call.ab as usize,
             run: run,
         };
@@ -91,6 +106,20 @@ fn forge(state: State, call: Call) -> State {
         outcome: call.byte,
     };
     with_run(state, forged)
+}
+
+// Forges a number of one side, or why there are none.
+fn forge_sides(state: State, call: Call) -> State {
+    let asked = state.asked;
+    if call.kind == FORGE_WHY {
+        return with_asked(state, forge::why(asked, call.length, call.byte));
+    }
+    let field = forge::Field {
+        of: call.byte,
+        place: call.length % 256,
+        value: call.ab,
+    };
+    with_asked(state, forge::sides(asked, call.length / 256, field))
 }
 
 // What the rows become that a call forges: the row that it has, or the one before them.
@@ -164,8 +193,6 @@ fn keep_answer(state: State, call: Call, answer: Called) -> State {
 
 // A start or run call on columns.
 fn call_columns(
-    left: &[u32],
-    right: &[u32],
     places: &mut [u8],
     sets: &mut [u64],
     parents: &mut [u16],
@@ -173,26 +200,14 @@ fn call_columns(
     state: State,
     call: Call,
 ) -> State {
+    let asked = state.asked;
     let held = state.run;
     if call.kind == START {
-        let answer = columns::start_on(
-            state.ls,
-            left,
-            state.rs,
-            right,
-            state.lent,
-            places,
-            sets,
-            parents,
-            letters,
-        );
+        let answer = columns::start_on(asked, state.lent, places, sets, parents, letters);
         return keep_answer(state, call, answer);
     }
     let answer = columns::run_on(
-        state.ls,
-        left,
-        state.rs,
-        right,
+        asked,
         state.lent,
         places,
         sets,
@@ -204,10 +219,17 @@ fn call_columns(
     keep_answer(state, call, answer)
 }
 
+// What a call on rows is to do.
+fn work_of(call: Call) -> Work {
+    if call.kind == START_ON_ROWS {
+        Work::Start
+    } else {
+        Work::Run(call.ab)
+    }
+}
+
 // A start or run call on rows.
 fn call_rows(
-    left: &[u32],
-    right: &[u32],
     places: &mut [u8],
     sets: &mut [u64],
     parents: &mut [u16],
@@ -215,20 +237,18 @@ fn call_rows(
     state: State,
     call: Call,
 ) -> State {
+    let asked = state.asked;
     let held = state.run;
-    let told = compare::call_table(
-        call.kind == START_ON_ROWS,
-        state.ls,
-        left,
-        state.rs,
-        right,
+    let work = work_of(call);
+    let told = own_table::call_table(
+        asked,
         state.lent,
         places,
         sets,
         parents,
         letters,
         held,
-        call.ab,
+        work,
     );
     keep(state, call, told)
 }
@@ -253,8 +273,6 @@ fn buffer() -> [u8; 512]
 
 // A trace call on columns.
 fn trace_columns(
-    left: &[u32],
-    right: &[u32],
     places: &[u8],
     sets: &[u64],
     parents: &[u16],
@@ -262,14 +280,12 @@ fn trace_columns(
     state: State,
     call: Call,
 ) {
+    let asked = state.asked;
     let held = state.run;
     let mut out = buffer();
     let n = hex::within(call.length, &out);
     let answer = columns::trace_on(
-        state.ls,
-        left,
-        state.rs,
-        right,
+        asked,
         state.lent,
         places,
         sets,
@@ -283,8 +299,6 @@ fn trace_columns(
 
 // A trace call on rows.
 fn trace_rows(
-    left: &[u32],
-    right: &[u32],
     places: &[u8],
     sets: &[u64],
     parents: &[u16],
@@ -292,14 +306,12 @@ fn trace_rows(
     state: State,
     call: Call,
 ) {
+    let asked = state.asked;
     let held = state.run;
     let mut out = buffer();
     let n = hex::within(call.length, &out);
-    let answer = compare::trace_table(
-        state.ls,
-        left,
-        state.rs,
-        right,
+    let answer = own_table::trace_table(
+        asked,
         state.lent,
         places,
         sets,
@@ -312,20 +324,11 @@ fn trace_rows(
 }
 
 // A call that changes nothing: a trace, or rows to be shown. Any other kind is bad.
-fn look(
-    left: &[u32],
-    right: &[u32],
-    places: &[u8],
-    sets: &[u64],
-    parents: &[u16],
-    letters: &[u16],
-    state: State,
-    call: Call,
-) {
+fn look(places: &[u8], sets: &[u64], parents: &[u16], letters: &[u16], state: State, call: Call) {
     let kind = call.kind;
     match kind {
-        TRACE => trace_columns(left, right, places, sets, parents, letters, state, call),
-        TRACE_ON_ROWS => trace_rows(left, right, places, sets, parents, letters, state, call),
+        TRACE => trace_columns(places, sets, parents, letters, state, call),
+        TRACE_ON_ROWS => trace_rows(places, sets, parents, letters, state, call),
         SHOW => rows::show(places, sets, parents, letters, call.from, call.to),
         _ => print::word(b"bad call\n"),
     }
@@ -333,8 +336,6 @@ fn look(
 
 // Makes a call, and answers what the next is made on.
 fn make(
-    left: &[u32],
-    right: &[u32],
     places: &mut [u8],
     sets: &mut [u64],
     parents: &mut [u16],
@@ -344,15 +345,14 @@ fn make(
 ) -> State {
     let kind = call.kind;
     match kind {
-        START | RUN => {
-            return call_columns(left, right, places, sets, parents, letters, state, call);
-        },
+        START | RUN => return call_columns(places, sets, parents, letters, state, call),
         START_ON_ROWS | RUN_ON_ROWS => {
-            return call_rows(left, right, places, sets, parents, letters, state, call);
+            return call_rows(places, sets, parents, letters, state, call);
         },
-        FORGE_RECORD | LEND => return forge(state, call),
+        FORGE_RECORD | LEND => return forge_run(state, call),
+        FORGE_SIDE | FORGE_WHY => return forge_sides(state, call),
         FORGE_ROW | REPEAT_ROW => forge_rows(places, sets, parents, letters, call),
-        _ => look(left, right, places, sets, parents, letters, state, call),
+        _ => look(places, sets, parents, letters, state, call),
     }
     state
 }
@@ -417,8 +417,6 @@ fn call_at(calls: &[u32], i: usize) -> Call {
 
 // Makes the calls one after the other.
 pub(crate) fn make_all(
-    left: &[u32],
-    right: &[u32],
     places: &mut [u8],
     sets: &mut [u64],
     parents: &mut [u16],
@@ -432,7 +430,7 @@ pub(crate) fn make_all(
     while i < n {
         let call = call_at(calls, 4 * i);
         i += 1;
-        let next = make(left, right, places, sets, parents, letters, state, call);
+        let next = make(places, sets, parents, letters, state, call);
         state = next;
     }
 }

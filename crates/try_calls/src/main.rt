@@ -36,6 +36,9 @@
 //     05000000 FROM TO 0          no call: the rows from FROM on, below TO, become what the row before is
 //     06000000 LENT(16) 0         no call: from here on so many rows are lent
 //     07000000 FROM TO 0          no call: shows the rows from FROM on, below TO
+//     0bFF0SJJ VALUE(16) 0        no call: forges number F of the left (S = 0) or the right side: s, count, accepting places, or
+//                                 present mask, absent mask or follow set of place J (F = 0 to 5)
+//     0cNN000S 0 0 0              no call: forges why there are no sides: number N, naming left, right or both (S = 1, 2, 3)
 //
 // Start, run and trace are made on the columns. With 08, 09 and 0a for 00, 01 and 02 they are made on a table
 // of rows: of what is lent in every column, and no more than 65,536 rows.
@@ -48,6 +51,7 @@
 // the run with the line `bad record`. No more than 131,072 bytes of input are read.
 mod at;
 mod calls;
+mod forge;
 mod hex;
 mod print;
 mod record;

@@ -3,6 +3,7 @@ use crate::at;
 use crate::calls;
 use crate::calls::State;
 use crate::hex;
+use asking::ask;
 use goals::Run;
 ghost use mathlib.Core.Path.{_≡_};
 ghost use Prim.Native.Nat.{_≤_};
@@ -47,17 +48,22 @@ fn longs() -> [u64; 65540]
     [0xeeeeeeeeeeeeeeee; 65540]
 }
 
-// What the first call is made on, by the head: no run yet.
-fn state_of(head: &[u32]) -> State {
+// What the first call is made on, by the head and the nodes of both sides: no run yet.
+fn state_of(head: &[u32], left: &[u32], right: &[u32]) -> State {
     let first = at::number(head, 0);
     let run = Run {
         settled: 0,
         used: 0,
         outcome: 0,
     };
+    let asked = ask(
+        (first / 16777216) as u8,
+        left,
+        (first / 65536 % 256) as u8,
+        right,
+    );
     State {
-        ls: (first / 16777216) as u8,
-        rs: (first / 65536 % 256) as u8,
+        asked: asked,
         lent: hex::eight(at::number(head, 2), at::number(head, 3)) as usize,
         run: run,
     }
@@ -69,14 +75,12 @@ fn make(head: &[u32], left: &[u32], right: &[u32], list: &[u32]) {
     let s = rows_at(head, 5);
     let q = rows_at(head, 6);
     let x = rows_at(head, 7);
-    let state = state_of(head);
+    let state = state_of(head, left, right);
     let mut places = bytes();
     let mut sets = longs();
     let mut parents = shorts();
     let mut letters = shorts();
     calls::make_all(
-        left,
-        right,
         &mut places[0..p],
         &mut sets[0..s],
         &mut parents[0..q],

@@ -38,7 +38,7 @@ fn show_letters(side: Side) {
     let end = letters_of(side.s);
     let mut x: u16 = 0;
     while x < end {
-        print::set(b" ", places::matching(naming, side.s, side.count, x));
+        print::set(b" ", places::matching(naming, side.s, x));
         x += 1;
     }
 }

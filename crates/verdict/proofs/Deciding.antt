@@ -14,7 +14,7 @@ use Rattle.goals.specs.Run.{State, started}
 use Rattle.goals.specs.Refusals.{Given, recordOf, Against, against, againstOf, startRefusal, runRefusal, Reply, Leaves, leaves, exit, valuesOf, runAfter}
 use Rattle.columns.specs.declared.Called.{Called}
 use Rattle.columns.specs.declared.Called.the-variants as called-variants
-use Rattle.columns.specs.Calls as core
+use Rattle.columns.specs.Tables as core
 use Rattle.columns.specs.Calls.{Columns, put, lentIn, called}
 use Rattle.columns.specs.Core.{Fits}
 use Rattle.columns.proofs.Laws.{put-put, rows-put, fits-put}
@@ -88,7 +88,7 @@ module _ (g : Given) (room : ℕ) (small : room ≤ 65535) (starts : startRefusa
   fits = le-trans (end-some g room small starts) (end-fits g room small starts)
 
   -- a run call on what start left
-  runs-on : (answer : Called) (c2 : Columns) → core.Runs g room c1 (recordOf started) room answer c2
+  runs-on : (answer : Called) (c2 : Columns) → core.RunsOf g room c1 (recordOf started) room answer c2
       → exit (called answer) c2 ≡ leaves (startRefusal g room) (valuesOf (recordOf st)) (put (st .rows) c) c
   runs-on answer c2 h =
       h
@@ -101,21 +101,21 @@ module _ (g : Given) (room : ℕ) (small : room ≤ 65535) (starts : startRefusa
 -- ---- `decide`
 -- start refuses
 pub decides-refused : (g : Given) (c c′ : Columns) (why : SideRefusal) (answer : Called) → answer ≡ called-variants.Refused why → lentIn 1024 c ≡ 1024
-    → core.Starts g 1024 c answer c′ → Decides g c answer c′
+    → core.StartsOf g 1024 c answer c′ → Decides g c answer c′
 decides-refused g c c′ why answer e lent h =
     none-leaves (called answer) (startRefusal g 1024) 0 (1 ∷ 0 ∷ []) (put (started .rows) c) c c′ (ap (λ (r : Reply). r .values) (called-refused answer why e))
     (h ∙ ap (λ (n : ℕ). leaves (startRefusal g n) (valuesOf (recordOf started)) (put (started .rows) c) c) lent) _ _
 
 -- start accepts, and the run call ends the run
 pub decides-ran : (g : Given) (c c1 c2 : Columns) (held : Run) (begun answer : Called) → begun ≡ called-variants.Accepted held → lentIn 1024 c ≡ 1024
-    → core.Starts g 1024 c begun c1 → core.Runs g 1024 c1 held 1024 answer c2 → Decides g c answer c2
+    → core.StartsOf g 1024 c begun c1 → core.RunsOf g 1024 c1 held 1024 answer c2 → Decides g c answer c2
 decides-ran g c c1 c2 held begun answer e lent s h =
     let told = called-accepted begun held e in
     let left = accepted-leaves (called begun) (startRefusal g (lentIn 1024 c)) (valuesOf (recordOf started)) (put (started .rows) c) c c1 s (ap (λ (r : Reply). r .refusal) told) in
     let now : held ≡ recordOf started = values-tell held (recordOf started) (sym (ap (λ (r : Reply). r .values) told) ∙ left .2) in
     runs-on g 1024 few (sym (ap (startRefusal g) lent) ∙ left .0) c lent answer c2
-    (subst (λ (k : Columns). core.Runs g 1024 k (recordOf started) 1024 answer c2) (left .1)
-    (subst (λ (r : Run). core.Runs g 1024 c1 r 1024 answer c2) now h))
+    (subst (λ (k : Columns). core.RunsOf g 1024 k (recordOf started) 1024 answer c2) (left .1)
+    (subst (λ (r : Run). core.RunsOf g 1024 c1 r 1024 answer c2) now h))
 
 -- ---- what the promise says
 -- accepted: columns and record are those of the run that ended

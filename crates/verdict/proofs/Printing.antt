@@ -13,7 +13,7 @@ use Rattle.goals.specs.declared.Run.{Run}
 use Rattle.goals.specs.Refusals.{Given, Against, against, startRefusal, recordOf}
 use Rattle.columns.specs.declared.Tracing.{Tracing}
 use Rattle.columns.specs.declared.Tracing.the-variants as tracing-variants
-use Rattle.columns.specs.Calls as core
+use Rattle.columns.specs.Tables as core
 use Rattle.columns.specs.Calls.{Columns, tracing}
 use Rattle.verdict.specs.Lines.{outcomeLine, countsLine, traceLine, refusedLine, endedLines}
 use Rattle.verdict.specs.Program.{endedOn}
@@ -77,7 +77,7 @@ number-of m n e = ap (λ (x : Tracing). getD (tracing x .values) 0 0) e
 
 pub trace-lettered :
     (g : Given) (c : Columns) (r : Run) (answer : Tracing) (out out′ : List ℕ) (n : ℕ) → answer ≡ tracing-variants.Accepted n → Ended g c r → r .outcome ≡ 2
-    → length out ≡ 1024 → core.Traces g 1024 c r out answer out′ → Lettered g n out′
+    → length out ≡ 1024 → core.TracesOf g 1024 c r out answer out′ → Lettered g n out′
 trace-lettered g c r answer out out′ n e ended refuted size h =
     let t = trace-ended g c r answer out out′ ended refuted size h in
     let many : n ≡ length (traceIn g) = number-of n (length (traceIn g)) (sym e ∙ t .0) in
@@ -90,7 +90,7 @@ trace-lettered g c r answer out out′ n e ended refuted size h =
 -- and it answers
 pub never-refused :
     (g : Given) (c : Columns) (r : Run) (answer : Tracing) (out out′ : List ℕ) → tracing answer .values ≡ [] → Ended g c r → r .outcome ≡ 2
-    → length out ≡ 1024 → core.Traces g 1024 c r out answer out′ → ⊥
+    → length out ≡ 1024 → core.TracesOf g 1024 c r out answer out′ → ⊥
 unfolding tracing
 never-refused g c r answer out out′ e ended refuted size h =
     let t = trace-ended g c r answer out out′ ended refuted size h in

@@ -15,8 +15,8 @@ use Rattle.goals.specs.Run.{State, wordIn, traceOf}
 use Rattle.goals.specs.Refusals.{Given, recordOf, against, startRefusal, traceRefusal, Leaves, leaves}
 use Rattle.columns.specs.declared.Tracing.{Tracing}
 use Rattle.columns.specs.declared.Tracing.the-variants as tracing-variants
-use Rattle.columns.specs.Calls as core
-use Rattle.columns.specs.Calls.{Columns, stateOf, tracing}
+use Rattle.columns.specs.Tables as core
+use Rattle.columns.specs.Calls.{Columns, lentIn, stateOf, tracing}
 use Rattle.columns.proofs.Budget.{state-held}
 use Rattle.demands.proofs.Accepting.{trace-passes, accepted-leaves}
 use Rattle.verdict.specs.Program.{endedOn}
@@ -46,7 +46,7 @@ tells (tracing-variants.Refused why) n h = absurd (omega (arith, ap length h))
 
 -- a trace call on the rows and the record of the run that ended
 pub trace-ended : (g : Given) (c : Columns) (r : Run) (answer : Tracing) (out out′ : List ℕ) → Ended g c r → r .outcome ≡ 2 → length out ≡ 1024
-    → core.Traces g 1024 c r out answer out′
+    → core.TracesOf g 1024 c r out answer out′
     → (answer ≡ tracing-variants.Accepted (length (traceIn g))) × (out′ ≡ front (traceIn g) out) × (length (traceIn g) ≤ 1024)
 trace-ended g c r answer out out′ e two size h = (tells answer (length (traceIn g)) (done .2), done .1, short)
   where
@@ -62,16 +62,16 @@ trace-ended g c r answer out out′ e two size h = (tells answer (length (traceI
         trace-passes g 1024 (endedOn g .rows) (recordOf (endedOn g)) (length out) .1
         (both g 1024 few (e .accepted), end-possible g 1024 few (e .accepted), sym (ap (λ (k : Run). k .outcome) (e .now)) ∙ two, le-trans short (omega (arith, size)))
 
-    why : traceRefusal g (core.lentIn 1024 c) (stateOf c r .rows) r (length out) ≡ against 0 0
+    why : traceRefusal g (lentIn 1024 c) (stateOf c r .rows) r (length out) ≡ against 0 0
     why = (λ i. traceRefusal g (e .lent i) (rows-are i .rows) (e .now i) (length out)) ∙ passes
 
     word : traceOf (stateOf c r .rows) (r .settled) ≡ traceIn g
     word = ap (λ (s : State). traceOf (s .rows) (s .settled)) rows-are
 
-    done : (traceRefusal g (core.lentIn 1024 c) (stateOf c r .rows) r (length out) ≡ against 0 0)
+    done : (traceRefusal g (lentIn 1024 c) (stateOf c r .rows) r (length out) ≡ against 0 0)
         × (out′ ≡ front (traceIn g) out)
         × (tracing answer .values ≡ length (traceIn g) ∷ [])
     done =
-        accepted-leaves (tracing answer) (traceRefusal g (core.lentIn 1024 c) (stateOf c r .rows) r (length out)) (length (traceIn g) ∷ []) (front (traceIn g) out) out out′
-        (h ∙ ap (λ (w : List ℕ). leaves (traceRefusal g (core.lentIn 1024 c) (stateOf c r .rows) r (length out)) (length w ∷ []) (front w out) out) word)
+        accepted-leaves (tracing answer) (traceRefusal g (lentIn 1024 c) (stateOf c r .rows) r (length out)) (length (traceIn g) ∷ []) (front (traceIn g) out) out out′
+        (h ∙ ap (λ (w : List ℕ). leaves (traceRefusal g (lentIn 1024 c) (stateOf c r .rows) r (length out)) (length w ∷ []) (front w out) out) word)
         (ap (λ (k : Leaves (List ℕ)). k .reply .refusal) h ∙ why)

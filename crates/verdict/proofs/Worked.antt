@@ -4,7 +4,7 @@ use mathlib.Core.List.{[], _∷_}
 use Rattle.bits.specs.Bit.{bit}
 use Rattle.effect.specs.Node.{kindOf, decodeOf, fieldsOf, numberOf}
 use Rattle.effect.specs.Refusals.{lowest, lowestNode, someBelow, someChild, claimed, namesBeyond, twins, nodeRefusal, oneIfInstant, instants, refusalAt, tableRefusal, sideRefusal}
-use Rattle.places.specs.Places.{place, numberedNode, numberedTo, rounds, hasEmpty, firstOf, lastOf, followOf, after, accepting}
+use Rattle.places.specs.Places.{place, numberedNode, numberedTo, rounds, hasEmpty, firstOf, lastOf, linksTo, after, accepting}
 use Rattle.places.specs.Side.{listOf, maskIn, masksTo, sideOf}
 use Rattle.places.specs.Readings.{matchingTo, spreadTo}
 use Rattle.goals.specs.Goals.{badGoal, eachMember, eachLetter, candidates, known, enter, enterAll}
@@ -17,5 +17,5 @@ use Rattle.verdict.specs.Program.{refusalIn, linesOf}
 
 -- "Input `10 14 00 00 10 14 02 00` prints, whole"
 pub worked : linesOf (0x10 ∷ 0x14 ∷ 0x00 ∷ 0x00 ∷ 0x10 ∷ 0x14 ∷ 0x02 ∷ 0x00 ∷ []) ≡ ascii "refuted\nsettled 1 of 3 rows\ntrace 00\n"
-unfolding bit kindOf decodeOf fieldsOf numberOf lowest lowestNode someBelow someChild claimed namesBeyond twins nodeRefusal oneIfInstant instants refusalAt tableRefusal sideRefusal place numberedNode numberedTo rounds hasEmpty firstOf lastOf followOf after accepting listOf maskIn masksTo sideOf matchingTo spreadTo badGoal eachMember eachLetter candidates known enter enterAll settle step steps run wordIn first digits each field fields signalsIn countIn nodesIn fillingSet headerRefusal readRefusal ascii digit decimalIn letter letters outcomeLine countsLine traceLine endedLines refusalIn linesOf
+unfolding bit kindOf decodeOf fieldsOf numberOf lowest lowestNode someBelow someChild claimed namesBeyond twins nodeRefusal oneIfInstant instants refusalAt tableRefusal sideRefusal place numberedNode numberedTo rounds hasEmpty firstOf lastOf linksTo after accepting listOf maskIn masksTo sideOf matchingTo spreadTo badGoal eachMember eachLetter candidates known enter enterAll settle step steps run wordIn first digits each field fields signalsIn countIn nodesIn fillingSet headerRefusal readRefusal ascii digit decimalIn letter letters outcomeLine countsLine traceLine endedLines refusalIn linesOf
 worked = refl

@@ -1,4 +1,5 @@
 // The program's answer: from the bytes of the input to the bytes of the output.
+use asking::ask;
 use columns::Called;
 use columns::Tracing;
 use columns::run_on;
@@ -13,7 +14,7 @@ ghost use mathlib.Core.Path.{_≡_};
 ghost use Prim.Native.Nat.{_+_, _*_, _<_, _≤_};
 ghost use lib.ListN.{length};
 ghost use Rattle.goals.specs.Refusals.{given, sideNumber, against, againstOf};
-ghost use Rattle.columns.specs.Calls.{columns, lentIn};
+ghost use Rattle.columns.specs.Calls.{here, before, after, lentIn};
 ghost use Rattle.verdict.specs.Lines.{digit, decimal, letter, letters, outcomeLine, countsLine, traceLine, sideText, refusedLine, endedLines};
 ghost use Rattle.verdict.specs.Program.{endedOn, linesOf, Prints};
 ghost use Rattle.verdict.specs.Core.{Puts, Decides, Ended, traceIn, comparisonLines, readingNumber};
@@ -164,26 +165,17 @@ fn decide(
     parents: &mut [u16],
     letters: &mut [u16],
 ) -> Called
-    requires { ⌜ lentIn 1024 (columns (now places) (now sets) (now parents) (now letters)) ≡ 1024 ⌝ }
-    ensures { λ r. ⌜ Decides (given ls (now (left .entry)) rs (now (right .entry))) (columns (now (places .entry)) (now (sets .entry)) (now (parents .entry)) (now (letters .entry))) r (columns (now (places .exit)) (now (sets .exit)) (now (parents .exit)) (now (letters .exit))) ⌝ }
+    requires { ⌜ lentIn 1024 (here places sets parents letters) ≡ 1024 ⌝ }
+    ensures { λ r.
+        let g = given ls (now (left .entry)) rs (now (right .entry)) in
+        ⌜ Decides g (before places sets parents letters) r (after places sets parents letters) ⌝ }
 {
-    let begun = start_on(ls, left, rs, right, ROOM, places, sets, parents, letters);
+    let asked = ask(ls, left, rs, right);
+    let begun = start_on(asked, ROOM, places, sets, parents, letters);
     let Called::Accepted(held) = begun else {
         return begun;
     };
-    run_on(
-        ls,
-        left,
-        rs,
-        right,
-        ROOM,
-        places,
-        sets,
-        parents,
-        letters,
-        held,
-        STEPS,
-    )
+    run_on(asked, ROOM, places, sets, parents, letters, held, STEPS)
 }
 
 // Line 3 of a run that ended refuted. Its trace is never refused.
@@ -200,24 +192,13 @@ fn put_trace_of(
     at: usize,
     out: &mut [u8],
 ) -> usize
-    requires ended { ⌜ Ended (given ls (now left) rs (now right)) (columns (now places) (now sets) (now parents) (now letters)) held ⌝ }
+    requires ended { ⌜ Ended (given ls (now left) rs (now right)) (here places sets parents letters) held ⌝ }
     requires refuted { ⌜ (held .outcome ≡ 2) × (at + 3078 ≤ length (now out)) ⌝ }
     ensures { λ r. ⌜ Puts (traceLine (traceIn (given ls (now (left .entry)) rs (now (right .entry))))) at (now (out .entry)) r (now (out .exit)) ⌝ }
 {
     let mut word: [u8; 1024] = [0; 1024];
-    let traced = trace_on(
-        ls,
-        left,
-        rs,
-        right,
-        ROOM,
-        places,
-        sets,
-        parents,
-        letters,
-        held,
-        &mut word,
-    );
+    let asked = ask(ls, left, rs, right);
+    let traced = trace_on(asked, ROOM, places, sets, parents, letters, held, &mut word);
     let Tracing::Accepted(n) = traced else {
         return at;
     };
@@ -237,7 +218,7 @@ fn put_ended(
     held: Run,
     out: &mut [u8],
 ) -> usize
-    requires ended { ⌜ Ended (given ls (now left) rs (now right)) (columns (now places) (now sets) (now parents) (now letters)) held ⌝ }
+    requires ended { ⌜ Ended (given ls (now left) rs (now right)) (here places sets parents letters) held ⌝ }
     requires long { ⌜ 4096 ≤ length (now out) ⌝ }
     ensures { λ r. ⌜ Puts (endedLines (endedOn (given ls (now (left .entry)) rs (now (right .entry))))) 0 (now (out .entry)) r (now (out .exit)) ⌝ }
 {

@@ -1,30 +1,30 @@
 -- `columns::start_on`. Refused for a side, refused for no rows, or row 0 at the front of the columns.
 use mathlib.Core.Path.{sym, _∙_}
 use borrow.Author.Needs.{needs}
-use Rattle.goals.specs.Refusals.{Given, given}
+use Rattle.asking.specs.declared.Asked.{Asked}
 use Rattle.columns.specs.Calls.{Columns, columns}
 use Rattle.columns.proofs.Calling.{start-sides, start-none, start-done}
 use Rattle.columns.proofs.start_on.Statement.{statement}
 use Rattle.columns.proofs.start_on.Tie as tie
 
--- where the function began, seen from where the sides were prepared, and what was given and lent
-abbrev start : tie.After-sides-of → tie.Start
-start s = s .before .before .before .before .before .before .before
+-- where the function began, seen from where the sides were judged, and what was asked and lent
+abbrev start : tie.After-why-not → tie.Start
+start s = s .before .before .before .before .before
 
-abbrev given-at : tie.After-sides-of → Given
-given-at s = let a = start s .args in given (a .ls) (a .left .now) (a .rs) (a .right .now)
+abbrev asked-at : tie.After-why-not → Asked
+asked-at s = start s .args .asked
 
-abbrev columns-at : tie.After-sides-of → Columns
+abbrev columns-at : tie.After-why-not → Columns
 columns-at s = let a = start s .args in columns (a .places .now) (a .sets .now) (a .parents .now) (a .letters .now)
 
-sides-of-requires : tie.Need-sides-of-requires
-sides-of-requires c κs = search needs
+why-not-requires : tie.Need-why-not-requires
+why-not-requires c κs = search needs
 
 returns : tie.Need-returns
 returns c =
-    let s = c .before .before .before in
+    let s = c .before .before in
     start-sides
-    (given-at s) (s .sides-of .result) (s .sides-of .ensures) (start s .args .lent) (columns-at s) (c .if1 .taken)
+    (asked-at s) (start s .args .lent) (columns-at s) (s .why-not .result) (s .why-not .ensures) (c .if1 .taken)
 
 shortest-requires : tie.Need-shortest-requires
 shortest-requires c κs = search needs
@@ -36,9 +36,9 @@ returns-2 : tie.Need-returns-2
 returns-2 c =
     let l = c .before .before in
     let n = l .before in
-    let s = n .before .before .before in
+    let s = n .before .before in
     start-none
-    (given-at s) (s .sides-of .result) (s .sides-of .ensures) (start s .args .lent) (columns-at s) (n .if1 .left) (c .both .result) (c .both .ensures)
+    (asked-at s) (start s .args .lent) (columns-at s) (s .why-not .result) (s .why-not .ensures) (n .if1 .left) (c .both .result) (c .both .ensures)
     (sym (l .shortest .ensures) ∙ c .before .if2 .taken)
 
 slice-write-places : tie.Need-slice-write-places
@@ -69,16 +69,16 @@ returns-3 : tie.Need-returns-3
 returns-3 c =
     let l = c .before in
     let n = l .before in
-    let s = n .before .before .before in
+    let s = n .before .before in
     start-done
-    (given-at s) (s .sides-of .result) (s .sides-of .ensures) (start s .args .lent) (columns-at s) (n .if1 .left)
+    (asked-at s) (start s .args .lent) (columns-at s) (s .why-not .result) (s .why-not .ensures) (n .if1 .left)
     (λ q. c .if2 .left (l .shortest .ensures ∙ q))
 
 pub start-on-spec : {M : Type 1} → statement M
 start-on-spec =
     tie.close
     (tie.spec
-    sides-of-requires
+    why-not-requires
     returns
     shortest-requires
     both-requires

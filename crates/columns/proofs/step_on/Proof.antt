@@ -1,8 +1,9 @@
 -- `columns::step_on`: a bad row ends the run (`step-bad`), any other is settled or finds no room (`step-next`).
 use native.Mathlib.Omega.{arith}
 use borrow.Author.Needs.{needs}
+use Rattle.bits.proofs.Laws.{shl-one}
 use Rattle.columns.specs.Calls.{Columns, columns}
-use Rattle.columns.proofs.Stepping.{step-bad, step-next, enters-most}
+use Rattle.columns.proofs.Stepping.{step-bad, by-shift, step-next, enters-most}
 use Rattle.columns.proofs.step_on.Statement.{statement}
 use Rattle.columns.proofs.step_on.Tie as tie
 
@@ -14,14 +15,14 @@ abbrev lent : tie.Start → Columns
 lent s = let a = s .args in columns (a .places .now) (a .sets .now) (a .parents .now) (a .letters .now)
 
 -- where the row was asked after, seen from where the goals were entered, and the columns as these left them
-abbrev asked : tie.After-enter-letters → tie.After-is-bad
-asked e = e .before .before .before .before .before .before .before .before .before .before
+abbrev asked : tie.After-enter-goals → tie.After-is-bad
+asked e = e .before .before .before .before .before .before .before .before .before .before .before .before .before
 
-abbrev left : tie.After-enter-letters → Columns
-left e = let z = e .enter-letters .last in columns (z .0) (z .1 .0) (z .1 .1 .0) (z .1 .1 .1 .0)
+abbrev left : tie.After-enter-goals → Columns
+left e = let z = e .enter-goals .last in columns (z .0) (z .1 .0) (z .1 .1 .0) (z .1 .1 .1 .0)
 
 -- where the goals were entered, seen from past what is known of the columns since
-abbrev answered : tie.After-slice-known10 → tie.After-enter-letters
+abbrev answered : tie.After-slice-known10 → tie.After-enter-goals
 answered c = c .before .before .before .before .before .before .before .before
 
 cast-r : tie.Need-cast-r
@@ -57,21 +58,27 @@ followers-at-requires c κs = search needs
 spread-of-requires : tie.Need-spread-of-requires
 spread-of-requires c κs = search needs
 
-cast-enter-letters : tie.Need-cast-enter-letters
-cast-enter-letters c = search needs
+cast-t26 : tie.Need-cast-t26
+cast-t26 c = search needs
 
-cast-enter-letters-2 : tie.Need-cast-enter-letters-2
-cast-enter-letters-2 c = search needs
+shl-t27 : tie.Need-shl-t27
+shl-t27 c = search needs
 
-enter-letters-requires : tie.Need-enter-letters-requires
-enter-letters-requires c κs = search needs
+cast-t28 : tie.Need-cast-t28
+cast-t28 c = search needs
+
+cast-enter-goals : tie.Need-cast-enter-goals
+cast-enter-goals c = search needs
+
+enter-goals-requires : tie.Need-enter-goals-requires
+enter-goals-requires c κs = search needs
 
 settled-requires : tie.Need-settled-requires
 settled-requires c κs =
     let e = answered c in
     let s = start (asked e) in
     let a = s .args in
-    let m = enters-most (lent s) (left e) (a .run .used) (a .room) _ (e .enter-letters .result) (s .pre .fits) (e .enter-letters .ensures) in
+    let m = enters-most (lent s) (left e) (a .run .used) (a .room) _ (e .enter-goals .result) (s .pre .fits) (e .enter-goals .ensures) in
     (omega (arith, m, s .pre .fits .small), omega (arith, s .pre .left-over, s .pre .fits .used, s .pre .fits .small))
 
 same-length : tie.Need-same-length
@@ -92,12 +99,14 @@ returns-2 c =
     let b = asked e in
     let s = start b in
     let a = s .args in
-    let f = e .before .before .before .before .before .before .before .followers-at in
-    let g = e .before .before .before .before .before .before .spread-of in
+    let g = e .before .before .before .before .before .before .before .before .before in
+    let f = g .before in
     step-next
-    (lent s) (a .room) (a .left) (a .right) (a .ls) (a .run) (s .pre) (left e) (b .is-bad .result) (f .result) (g .result)
-    (e .enter-letters .result) (c .settled .result) (b .is-bad .ensures) (e .before .before .before .before .before .before .before .before .before .if1 .left) (f .ensures) (g .ensures)
-    (e .enter-letters .ensures) (c .settled .ensures)
+    (lent s) (a .room) (a .left) (a .right) (a .ls) (a .run) (s .pre) (left e) (b .is-bad .result) (f .followers-at .result) (g .spread-of .result)
+    (e .enter-goals .result) (c .settled .result) (b .is-bad .ensures) (f .before .before .if1 .left) (f .followers-at .ensures) (g .spread-of .ensures)
+    (by-shift (lent s) (left e) (a .room) (a .run .used) _ (a .ls) (f .followers-at .result) (g .spread-of .result) (a .run .settled) (e .enter-goals .result)
+    (shl-one 32 (a .ls .s) (omega (arith, s .pre .few))) (e .enter-goals .ensures))
+    (c .settled .ensures)
 
 pub step-on-spec : {M : Type 1} → statement M
 step-on-spec =
@@ -112,9 +121,11 @@ step-on-spec =
     cast-followers-at
     followers-at-requires
     spread-of-requires
-    cast-enter-letters
-    cast-enter-letters-2
-    enter-letters-requires
+    cast-t26
+    shl-t27
+    cast-t28
+    cast-enter-goals
+    enter-goals-requires
     settled-requires
     same-length
     same-length-2

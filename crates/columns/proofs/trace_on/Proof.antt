@@ -5,31 +5,32 @@ use mathlib.Core.Path.{_≡_, sym, ap, subst, _∙_}
 use lib.ListN.{length}
 use native.Mathlib.Omega.{arith}
 use borrow.Author.Needs.{needs}
-use Rattle.goals.specs.Refusals.{Given, given, roomOf}
-use Rattle.columns.specs.Calls.{Columns, columns, lentIn}
-use Rattle.columns.specs.Core.{Opens, climb}
+use Rattle.goals.specs.Refusals.{roomOf}
+use Rattle.asking.specs.Asked.{named, runRefusalOn}
+use Rattle.columns.specs.Calls.{Columns, columns, rowsIn, lentIn}
+use Rattle.columns.specs.Core.{climb}
 use Rattle.columns.proofs.Calling.{fits-lent, trace-refused, trace-early, trace-short, trace-done, Traceable, traceable}
 use Rattle.columns.proofs.Climbing.{climb-length}
 use Rattle.columns.proofs.trace_on.Statement.{statement}
 use Rattle.columns.proofs.trace_on.Tie as tie
 
--- where the function began, seen from where the run was opened, and what was given and lent
-abbrev start : tie.After-open-run → tie.Start
-start o = o .before .before .before .before .before .before .before .before .before
+-- where the function began, seen from where a refusal was asked after, and the columns
+abbrev start : tie.After-run-refusal → tie.Start
+start o = o .before .before .before .before .before .before .before
 
-abbrev given-at : tie.After-open-run → Given
-given-at o = let a = start o .args in given (a .ls) (a .left .now) (a .rs) (a .right .now)
-
-abbrev columns-at : tie.After-open-run → Columns
+abbrev columns-at : tie.After-run-refusal → Columns
 columns-at o = let a = start o .args in columns (a .places .now) (a .sets .now) (a .parents .now) (a .letters .now)
 
 -- n is the number of rows lent in all columns
-is-opened : (o : tie.After-open-run) → Opens (given-at o) (lentIn (start o .args .lent) (columns-at o)) (columns-at o) (start o .args .run) (o .open-run .result)
-is-opened o = subst (λ (n : ℕ). Opens (given-at o) n (columns-at o) (start o .args .run) (o .open-run .result)) (o .before .shortest .ensures) (o .open-run .ensures)
+is-refusal : (o : tie.After-run-refusal) → let a = start o .args in
+    o .run-refusal .result ≡ named (runRefusalOn (a .asked) (lentIn (a .lent) (columns-at o)) (rowsIn (columns-at o) (a .run .used)) (a .run))
+is-refusal o =
+    let a = start o .args in
+    o .run-refusal .ensures ∙ ap (λ (n : ℕ). named (runRefusalOn (a .asked) n (rowsIn (columns-at o) (a .run .used)) (a .run))) (o .before .shortest .ensures)
 
--- where the run was opened, seen from past the refusals of opening and of 17, and the way of the refuted row
-abbrev opened : tie.Else1 → tie.After-open-run
-opened n = n .before .before .before
+-- where a refusal was asked after, seen from past it and past 17, and the way of the refuted row
+abbrev opened : tie.Else1 → tie.After-run-refusal
+opened n = n .before .before
 
 abbrev past : tie.Else2 → tie.Else1
 past f = f .before .before
@@ -38,7 +39,7 @@ found : (f : tie.Else2) → Traceable (columns-at (opened (past f))) (start (ope
 found f =
     let o = opened (past f) in
     let a = start o .args in
-    traceable (given-at o) (a .lent) (columns-at o) (a .run) (o .open-run .result) (is-opened o) (past f .if1 .left) (f .if2 .left)
+    traceable (a .asked) (a .lent) (columns-at o) (a .run) (o .run-refusal .result) (is-refusal o) (past f .if1 .left) (f .if2 .left)
 
 abbrev refuted : tie.After-trace-length → tie.Else2
 refuted n = n .before .before .before
@@ -53,17 +54,16 @@ length-is n =
 shortest-requires : tie.Need-shortest-requires
 shortest-requires c κs = search needs
 
-open-run-requires : tie.Need-open-run-requires
-open-run-requires c κs =
-    let q = c in
-    let a = q .before .before .before .before .before .before .before .before .args in
-    fits-lent (a .lent) (columns (a .places .now) (a .sets .now) (a .parents .now) (a .letters .now)) 0 _ (ap roomOf (q .shortest .ensures)) (omega arith)
+run-refusal-requires : tie.Need-run-refusal-requires
+run-refusal-requires c κs =
+    let a = c .before .before .before .before .before .before .args in
+    fits-lent (a .lent) (columns (a .places .now) (a .sets .now) (a .parents .now) (a .letters .now)) 0 _ (ap roomOf (c .shortest .ensures)) (omega arith)
 
 returns : tie.Need-returns
 returns c =
-    let o = c .before .before .before in
+    let o = c .before .before in
     let a = start o .args in
-    trace-refused (given-at o) (a .lent) (columns-at o) (a .run) (o .open-run .result) (is-opened o) (a .out .now) (c .if1 .taken)
+    trace-refused (a .asked) (a .lent) (columns-at o) (a .run) (o .run-refusal .result) (is-refusal o) (a .out .now) (c .if1 .taken)
 
 both-requires : tie.Need-both-requires
 both-requires c κs = search needs
@@ -73,7 +73,7 @@ returns-2 c =
     let n = c .before .before .before in
     let o = opened n in
     let a = start o .args in
-    trace-early (given-at o) (a .lent) (columns-at o) (a .run) (o .open-run .result) (is-opened o) (a .out .now) (n .if1 .left)
+    trace-early (a .asked) (a .lent) (columns-at o) (a .run) (o .run-refusal .result) (is-refusal o) (a .out .now) (n .if1 .left)
     (c .both .result) (c .both .ensures) (c .before .if2 .taken)
 
 cast-used : tie.Need-cast-used
@@ -94,7 +94,7 @@ returns-3 c =
     let f = refuted n in
     let o = opened (past f) in
     let a = start o .args in
-    trace-short (given-at o) (a .lent) (columns-at o) (a .run) (o .open-run .result) (is-opened o) (a .out .now) (past f .if1 .left)
+    trace-short (a .asked) (a .lent) (columns-at o) (a .run) (o .run-refusal .result) (is-refusal o) (a .out .now) (past f .if1 .left)
     (c .both2 .result) (c .both2 .ensures) (f .if2 .left)
     (subst (λ (k : ℕ). length (a .out .now) < k) (length-is n ∙ ap length (sym (found f .word))) (c .before .if3 .taken))
 
@@ -114,7 +114,7 @@ returns-4 c =
     let f = refuted n in
     let o = opened (past f) in
     let a = start o .args in
-    trace-done (given-at o) (a .lent) (columns-at o) (a .run) (o .open-run .result) (is-opened o) (a .out .now) (past f .if1 .left) (f .if2 .left)
+    trace-done (a .asked) (a .lent) (columns-at o) (a .run) (o .run-refusal .result) (is-refusal o) (a .out .now) (past f .if1 .left) (f .if2 .left)
     (n .trace-length .result) (w .put-trace .last .1 .1 .1 .1 .1 .0) (length-is n) (search needs) (w .put-trace .ensures)
 
 pub trace-on-spec : {M : Type 1} → statement M
@@ -122,7 +122,7 @@ trace-on-spec =
     tie.close
     (tie.spec
     shortest-requires
-    open-run-requires
+    run-refusal-requires
     returns
     both-requires
     returns-2

@@ -7,11 +7,11 @@ use Rattle.try_calls.proofs.calls.make_all.Statement.{statement}
 use Rattle.try_calls.proofs.calls.make_all.Tie as tie
 
 abbrev Inv-loop : tie.InvT-loop
-Inv-loop left right places₀ sets₀ parents₀ letters₀ calls state₀ n i₀ places sets parents letters state i =
+Inv-loop places₀ sets₀ parents₀ letters₀ calls state₀ n i₀ places sets parents letters state i =
     (length places ≡ length places₀) × (length sets ≡ length sets₀) × (length parents ≡ length parents₀) × (length letters ≡ length letters₀)
 
 abbrev μ-loop : tie.MeasureT-loop
-μ-loop left right places₀ sets₀ parents₀ letters₀ calls state₀ n i₀ places sets parents letters state i =
+μ-loop places₀ sets₀ parents₀ letters₀ calls state₀ n i₀ places sets parents letters state i =
     n - i
 
 loop-holds : tie.Need-loop-holds Inv-loop μ-loop

@@ -1,0 +1,4 @@
+pub mod Refusing
+pub mod Possible
+pub mod Asking
+pub mod Unique

@@ -1,0 +1,21 @@
+-- Any two results that meet a promise are equal: each promise is an equation of the result.
+use Prim.Native.Nat.{ℕ}
+use mathlib.Core.Path.{_≡_, sym, _∙_}
+use mathlib.Core.Bool.{Bool}
+use Rattle.places.specs.declared.Side.{Side}
+use Rattle.goals.specs.declared.SideRefusal.{SideRefusal}
+use Rattle.goals.specs.Refusals.{Given, against}
+use Rattle.asking.specs.declared.Asked.{Asked}
+use Rattle.asking.specs.Asked.{named, askedOf, sideImpossible, whyNot}
+
+pub both-one : (number : ℕ) (r r′ : SideRefusal) → r ≡ named (against 3 number) → r′ ≡ named (against 3 number) → r ≡ r′
+both-one number r r′ e f = e ∙ sym f
+
+pub ask-one : (g : Given) (r r′ : Asked) → r ≡ askedOf g → r′ ≡ askedOf g → r ≡ r′
+ask-one g r r′ e f = e ∙ sym f
+
+pub side-impossible-one : (sd : Side) (r r′ : Bool) → r ≡ sideImpossible sd → r′ ≡ sideImpossible sd → r ≡ r′
+side-impossible-one sd r r′ e f = e ∙ sym f
+
+pub why-not-one : (a : Asked) (r r′ : SideRefusal) → r ≡ whyNot a → r′ ≡ whyNot a → r ≡ r′
+why-not-one a r r′ e f = e ∙ sym f

@@ -1,0 +1,5 @@
+pub mod Laws
+pub mod Kit
+pub mod Values
+pub mod Lending
+pub mod Unique
