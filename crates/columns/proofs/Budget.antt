@@ -12,7 +12,6 @@ use lib.ListN.{length, getD}
 use lib.Seq.{take-length}
 use borrow.Author.Tests.{eq-eqb, ne-eqb, eqb-false}
 use Rattle.places.specs.declared.Side.{Side}
-use Rattle.places.specs.declared.Naming.{Naming}
 use Rattle.places.specs.Matching.{namingOf, matchingBy}
 use Rattle.goals.specs.declared.Row.{Row}
 use Rattle.goals.specs.declared.Run.{Run}
@@ -20,7 +19,7 @@ use Rattle.columns.specs.declared.Letters.{Letters}
 use Rattle.goals.specs.Goals.{rowZero, bad, candidates, Entered, enterAll}
 use Rattle.goals.specs.Run.{State, state, settle, step, steps, run}
 use Rattle.columns.specs.Calls.{Columns, columns, rowsIn, put, stateOf}
-use Rattle.columns.specs.Core.{Fits, entering, Ready, Steps, Runnable}
+use Rattle.columns.specs.Core.{Fits, entering, lettersOf, Ready, Steps, Runnable}
 use Rattle.columns.proofs.Laws.{length-rowsIn, put-put, rows-put, all-grows, fits-put, put-same}
 
 -- the state that columns and record hold
@@ -166,15 +165,14 @@ module _ (c : Columns) (room : ℕ) (left right : Side) (r : Run) (g : Runnable 
       h
 
   -- with the letters worked out for both sides it can take a step
-  pub run-ready : (on-left on-right : Naming) → on-left ≡ namingOf left → on-right ≡ namingOf right → (r .outcome ≡ 1 → ⊥)
-      → Ready c room left right (record { s = left .s; left = on-left; right = on-right }) r
-  run-ready on-left on-right e f h = record {
+  pub run-ready : (ls : Letters) → ls ≡ lettersOf left right → (r .outcome ≡ 1 → ⊥) → Ready c room left right ls r
+  run-ready ls e h = subst (λ (l : Letters). Ready c room left right l r) (sym e) (record {
     fits = g .fits;
     left-over = g .unsettled h;
     few = g .few;
     signals = refl;
-    on-left = λ x l. ap (λ (n : Naming). matchingBy n (left .s) x) e ∙ g .on-left x l;
+    on-left = g .on-left;
     on-right = λ x l.
-        ap₂ (λ (n : Naming) (s : ℕ). matchingBy n s x) f (sym (g .signals))
+        ap (λ (s : ℕ). matchingBy (namingOf right) s x) (sym (g .signals))
         ∙ g .on-right x (subst (λ (s : ℕ). x < 2 ^ s) (sym (g .signals)) l);
-  }
+  })

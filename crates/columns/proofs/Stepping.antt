@@ -18,7 +18,7 @@ use Rattle.goals.specs.declared.Row.{Row}
 use Rattle.goals.specs.declared.Run.{Run}
 use Rattle.stepping.specs.declared.Source.{Source}
 use Rattle.stepping.specs.Next.{lettersIn}
-use Rattle.stepping.specs.Rest.{goalsFor, lettersFrom, allGoals}
+use Rattle.stepping.specs.Rest.{goalsFor, allGoals}
 use Rattle.stepping.proofs.Laws.{letters-each}
 use Rattle.columns.specs.declared.Entering.{Entering}
 use Rattle.columns.specs.declared.Letters.{Letters}
@@ -26,7 +26,7 @@ use Rattle.goals.specs.Goals.{row, rowZero, badGoal, eachMember, goalsOf, eachL
 use Rattle.goals.specs.Run.{State, state, settle, step}
 use Rattle.columns.specs.Calls.{Columns, rowAt, rowsIn, stateOf}
 use Rattle.goals.specs.Refusals.{recordOf}
-use Rattle.columns.specs.Core.{Fits, entering, Enters, Ready, Steps}
+use Rattle.columns.specs.Core.{Fits, entering, Enters, sourceOf, Ready, Steps}
 use Rattle.columns.proofs.Laws.{length-rowsIn, put-same, all-grows}
 
 -- row i of the first n
@@ -47,20 +47,11 @@ letters-same f g (suc n) h = ap₂ _++_ (letters-same f g n (λ x l. h x (omega 
 all-letters : (s : ℕ) → s ≤ 16 → min (2 ^ s) 65536 ≡ 2 ^ s
 all-letters s h = let l : 2 ^ s ≤ 2 ^ 16 = pow-mono {i = s} {j = 16} h in omega (arith, l)
 
--- what the goals of row i are made of, where `a` follows it on the left and `s` on the right
-abbrev sourced : ℕ → Letters → ℕ → ℕ → ℕ → Source
-sourced n ls a s i =
-    record { s = ls .s; letters = n; left = ls .left; right = ls .right; follow = a; spread = s; parent = i }
-
-abbrev source : Letters → ℕ → ℕ → ℕ → Source
-source ls a s i = sourced (2 ^ (ls .s)) ls a s i
-
--- the number of letters as it was worked out
-pub by-shift : (c c′ : Columns) (room used n : ℕ) (ls : Letters) (a s i : ℕ) (r : Entering) → n ≡ 2 ^ (ls .s)
-    → Enters c c′ (enterAll room (allGoals (sourced n ls a s i)) (entering (rowsIn c used))) r
-    → Enters c c′ (enterAll room (allGoals (source ls a s i)) (entering (rowsIn c used))) r
-by-shift c c′ room used n ls a s i r e h =
-    subst (λ (k : ℕ). Enters c c′ (enterAll room (lettersFrom (sourced k ls a s i) 0 (lettersIn (sourced k ls a s i))) (entering (rowsIn c used))) r) e h
+-- what the goals of a row are made of, as it was worked out
+pub source-is : (left right : Side) (ls : Letters) (place set i n a s : ℕ) → n ≡ 2 ^ (ls .s) → a ≡ followers left place → s ≡ spreadTo right set 64
+    → record { s = ls .s; letters = n; left = ls .left; right = ls .right; follow = a; spread = s; parent = i } ≡ sourceOf left right ls place set i
+source-is left right ls place set i n a s e p q =
+    λ k. record { s = ls .s; letters = e k; left = ls .left; right = ls .right; follow = p k; spread = q k; parent = i }
 
 -- a record from its three numbers
 run-eq : (r : Run) (st : State) → r .settled ≡ st .settled → r .used ≡ length (st .rows) → r .outcome ≡ st .outcome → r ≡ recordOf st
@@ -90,29 +81,30 @@ module _ (c : Columns) (room : ℕ) (left right : Side) (ls : Letters) (r : Run)
       (record { columns = put-same c (r .used) room (rd .fits); now = run-eq _ (state (rowsIn c (r .used)) (r .settled) 2) refl (sym (length-rowsIn c (r .used))) refl })
 
   -- the goals that come one after the other are the candidates
-  candidates-by : (a s : ℕ) → a ≡ followers left (w .place) → s ≡ spreadTo right (w .set) 64
-      → lettersFrom (source ls a s (r .settled)) 0 (lettersIn (source ls a s (r .settled))) ≡ candidates left right (r .settled) w
-  unfolding candidates
-  candidates-by a s p q =
-      letters-each (source ls a s (r .settled)) (lettersIn (source ls a s (r .settled)))
-      ∙ ap (eachLetter (goalsFor (source ls a s (r .settled)))) (all-letters (ls .s) (rd .few) ∙ ap (λ (n : ℕ). 2 ^ n) (rd .signals))
-      ∙ letters-same (goalsFor (source ls a s (r .settled))) (goalsOf left right (r .settled) w) (2 ^ (left .s))
-      (λ x l. ap₂ (λ (m v : ℕ). eachMember m (λ j. row j v (r .settled) x) 64)
-      (ap₂ bitAnd p (rd .on-left x l))
-      (ap₂ bitAnd q (rd .on-right x l)))
+  abbrev src : Source
+  src = sourceOf left right ls (w .place) (w .set) (r .settled)
 
-  pub step-next : (c′ : Columns) (b : Bool) (a s : ℕ) (e : Entering) (v : Run)
-      → b ≡ badGoal (left .accepts) (right .accepts) (w .place) (w .set) → b ≡ false
-      → a ≡ followers left (w .place) → s ≡ spreadTo right (w .set) 64
-      → Enters c c′ (enterAll room (lettersFrom (source ls a s (r .settled)) 0 (lettersIn (source ls a s (r .settled)))) (entering (rowsIn c (r .used)))) e
+  candidates-by : allGoals src ≡ candidates left right (r .settled) w
+  unfolding candidates
+  candidates-by =
+      letters-each src (lettersIn src)
+      ∙ ap (eachLetter (goalsFor src)) (all-letters (ls .s) (rd .few) ∙ ap (λ (n : ℕ). 2 ^ n) (rd .signals))
+      ∙ letters-same (goalsFor src) (goalsOf left right (r .settled) w) (2 ^ (left .s))
+      (λ x l. ap₂ (λ (m v : ℕ). eachMember m (λ j. row j v (r .settled) x) 64)
+      (ap (bitAnd (src .follow)) (rd .on-left x l))
+      (ap (bitAnd (src .spread)) (rd .on-right x l)))
+
+  pub step-next : (c′ : Columns) (b : Bool) (from : Source) (e : Entering) (v : Run)
+      → b ≡ badGoal (left .accepts) (right .accepts) (w .place) (w .set) → b ≡ false → from ≡ src
+      → Enters c c′ (enterAll room (allGoals from) (entering (rowsIn c (r .used)))) e
       → (v .used ≡ e .used) × (v .settled ≡ cond (e .full) (r .settled) (r .settled + 1)) × (v .outcome ≡ cond (e .full) 3 (cond (eqb (r .settled + 1) (e .used)) 1 0))
       → Steps c c′ (step left right room (stateOf c r)) v
   unfolding settle
-  step-next c′ b a s e v p h qa qs g k =
-      subst (λ (st : State). Steps c c′ st v) (ap (λ (l : List Row). settle (r .settled) (enterAll room l (entering (rowsIn c (r .used))))) (candidates-by a s qa qs) ∙ step-is false (sym h ∙ p)) settled-is
+  step-next c′ b from e v p h q g k =
+      subst (λ (st : State). Steps c c′ st v) (ap (λ (l : List Row). settle (r .settled) (enterAll room l (entering (rowsIn c (r .used))))) (ap allGoals q ∙ candidates-by) ∙ step-is false (sym h ∙ p)) settled-is
     where
       all : Entered
-      all = enterAll room (lettersFrom (source ls a s (r .settled)) 0 (lettersIn (source ls a s (r .settled)))) (entering (rowsIn c (r .used)))
+      all = enterAll room (allGoals from) (entering (rowsIn c (r .used)))
 
       by : (f : Bool) → all .full ≡ f
           → Steps c c′ (cond f (state (all .rows) (r .settled) 3) (state (all .rows) (suc (r .settled)) (cond (eqb (suc (r .settled)) (length (all .rows))) 1 0))) v

@@ -4,16 +4,29 @@ use mathlib.Core.Path.{_≡_, refl, ap, subst, _∙_}
 use mathlib.Core.List.{List}
 use lib.ListN.{length}
 use Rattle.goals.specs.declared.Run.{Run}
-use Rattle.goals.specs.Run.{State}
-use Rattle.goals.specs.Refusals.{Given, recordOf, valuesOf}
+use Rattle.goals.specs.Run.{State, started}
+use Rattle.goals.specs.Refusals.{Given, recordOf, startRefusal, runRefusal, traceRefusal, valuesOf, runAfter}
 use Rattle.asking.specs.declared.Asked.{Asked}
 use Rattle.asking.specs.Asked.{askedOf}
 use Rattle.asking.proofs.Refusing.{leaves-same}
 use Rattle.asking.proofs.Asking.{start-asked, run-asked, trace-asked, after-asked}
 use Rattle.columns.specs.declared.Called.{Called}
 use Rattle.columns.specs.declared.Tracing.{Tracing}
-use Rattle.columns.specs.Calls.{Columns, rowsIn, put, lentIn, Starts, Runs, Traces}
-use Rattle.columns.specs.Tables.{StartsOf, RunsOf, TracesOf}
+use Rattle.columns.specs.Calls.{Columns, rowsIn, put, lentIn, CallsBy, Starts, Runs, TracesBy, Traces}
+
+-- the promises of the three calls, said of two tables
+abbrev pub StartsOf : Given → ℕ → Columns → Called → Columns → Type 0
+StartsOf g lent c answer c′ = CallsBy (startRefusal g (lentIn lent c)) started c answer c′
+
+abbrev pub RunsOf : Given → ℕ → Columns → Run → ℕ → Called → Columns → Type 0
+RunsOf g lent c r budget answer c′ =
+    let rows = rowsIn c (r .used) in
+    CallsBy (runRefusal g (lentIn lent c) rows r) (runAfter g (lentIn lent c) rows r budget) c answer c′
+
+abbrev pub TracesOf : Given → ℕ → Columns → Run → List ℕ → Tracing → List ℕ → Type 0
+TracesOf g lent c r out answer out′ =
+    let rows = rowsIn c (r .used) in
+    TracesBy (traceRefusal g (lentIn lent c) rows r (length out)) rows r out answer out′
 
 module _ (g : Given) (a : Asked) (e : a ≡ askedOf g) (lent : ℕ) (c : Columns) where
   pub starts-of : (answer : Called) (c′ : Columns) → Starts a lent c answer c′ → StartsOf g lent c answer c′

@@ -12,7 +12,7 @@ use Rattle.goals.specs.Goals.{row}
 use Rattle.goals.specs.Run.{State, state, started, traceOf}
 use Rattle.asking.specs.declared.Asked.{Asked}
 use Rattle.asking.specs.Asked.{startRefusalOn, runRefusalOn, traceRefusalOn, runAfterOn}
-use Rattle.goals.specs.Refusals.{recordOf, against, againstOf, Reply, leaves, exit, valuesOf}
+use Rattle.goals.specs.Refusals.{recordOf, Against, against, againstOf, Reply, leaves, exit, valuesOf}
 use Rattle.columns.specs.declared.Called.{Called}
 use Rattle.columns.specs.declared.Called.the-variants as called-variants
 use Rattle.columns.specs.declared.Tracing.{Tracing}
@@ -76,23 +76,29 @@ unfoldable pub tracing : Tracing → Reply
 tracing (tracing-variants.Accepted n) = record { refusal = against 0 0; values = n ∷ [] }
 tracing (tracing-variants.Refused why) = record { refusal = againstOf why; values = [] }
 
+-- what start and run leave, given their refusal and the state that else comes out: its record is answered, and its rows stand at the front
+abbrev pub CallsBy : Against → State → Columns → Called → Columns → Type 0
+CallsBy why st c answer c′ = exit (called answer) c′ ≡ leaves why (valuesOf (recordOf st)) (put (st .rows) c) c
+
 -- the promise of `start_on`
 abbrev pub Starts : Asked → ℕ → Columns → Called → Columns → Type 0
-Starts a lent c answer c′ =
-    exit (called answer) c′ ≡ leaves (startRefusalOn a (lentIn lent c)) (valuesOf (recordOf started)) (put (started .rows) c) c
+Starts a lent c answer c′ = CallsBy (startRefusalOn a (lentIn lent c)) started c answer c′
 
 -- the promise of `run_on`
 abbrev pub Runs : Asked → ℕ → Columns → Run → ℕ → Called → Columns → Type 0
 Runs a lent c r budget answer c′ =
     let rows = rowsIn c (r .used) in
-    let st = runAfterOn a (lentIn lent c) rows r budget in
-    exit (called answer) c′ ≡ leaves (runRefusalOn a (lentIn lent c) rows r) (valuesOf (recordOf st)) (put (st .rows) c) c
+    CallsBy (runRefusalOn a (lentIn lent c) rows r) (runAfterOn a (lentIn lent c) rows r budget) c answer c′
 
--- the promise of `trace_on`: "the letters from row 0 to the refuted row, one byte each, at the buffer's front, and answers how
+-- what trace leaves, given its refusal: "the letters from row 0 to the refuted row, one byte each, at the buffer's front, and answers how
 -- many; the rest stays"
+abbrev pub TracesBy : Against → List Row → Run → List ℕ → Tracing → List ℕ → Type 0
+TracesBy why rows r out answer out′ =
+    let word = traceOf rows (r .settled) in
+    exit (tracing answer) out′ ≡ leaves why (length word ∷ []) (front word out) out
+
+-- the promise of `trace_on`
 abbrev pub Traces : Asked → ℕ → Columns → Run → List ℕ → Tracing → List ℕ → Type 0
 Traces a lent c r out answer out′ =
     let rows = rowsIn c (r .used) in
-    let word = traceOf rows (r .settled) in
-    exit (tracing answer) out′
-    ≡ leaves (traceRefusalOn a (lentIn lent c) rows r (length out)) (length word ∷ []) (front word out) out
+    TracesBy (traceRefusalOn a (lentIn lent c) rows r (length out)) rows r out answer out′

@@ -11,7 +11,8 @@ use Rattle.columns.specs.declared.Entering.{Entering}
 use Rattle.columns.specs.declared.Letters.{Letters}
 use Rattle.goals.specs.Goals.{Entered}
 use Rattle.places.specs.declared.Side.{Side}
-use Rattle.places.specs.Readings.{matching}
+use Rattle.places.specs.Readings.{matching, followers, spreadTo}
+use Rattle.stepping.specs.declared.Source.{Source}
 use Rattle.goals.specs.declared.Run.{Run}
 use Rattle.goals.specs.Run.{State}
 use Rattle.goals.specs.Refusals.{recordOf}
@@ -35,6 +36,23 @@ pub record Enters (before after : Columns) (e : Entered) (r : Entering) : Type 0
   pub columns : after ≡ put (e .rows) before
   pub used : r .used ≡ length (e .rows)
   pub full : r .full ≡ e .full
+
+-- the letters of a call on two sides
+abbrev pub lettersOf : Side → Side → Letters
+lettersOf left right = record { s = left .s; left = namingOf left; right = namingOf right }
+
+-- what the goals of row i are made of, whose place and set these are
+abbrev pub sourceOf : Side → Side → Letters → ℕ → ℕ → ℕ → Source
+sourceOf left right ls place set i =
+    record {
+      s = ls .s;
+      letters = 2 ^ (ls .s);
+      left = ls .left;
+      right = ls .right;
+      follow = followers left place;
+      spread = spreadTo right set 64;
+      parent = i;
+    }
 
 -- a run that can take a step: some row is not settled, and the letters are worked out for the two sides
 pub record Ready (c : Columns) (room : ℕ) (left right : Side) (ls : Letters) (r : Run) : Type 0 where

@@ -24,7 +24,7 @@ ghost use Rattle.goals.specs.Refusals.{roomOf, rowImpossible, impossible};
 ghost use Rattle.asking.specs.Asked.{named, runRefusalOn};
 ghost use Rattle.stepping.specs.Rest.{allGoals};
 ghost use Rattle.columns.specs.Calls.{here, before, after, rowAt, rowsIn, stateOf, Starts, Runs, Traces};
-ghost use Rattle.columns.specs.Core.{Fits, Enters, entering, Ready, Steps, Runnable, Rooted, climb};
+ghost use Rattle.columns.specs.Core.{Fits, Enters, entering, lettersOf, sourceOf, Ready, Steps, Runnable, Rooted, climb};
 
 // What start and run answer: the record of the run, or the refusal.
 pub enum Called {
@@ -177,6 +177,40 @@ fn settled(r: u32, e: Entering) -> Run
     }
 }
 
+// The letters of a call on two sides.
+fn letters_of(left: Side, right: Side) -> Letters
+    ensures { λ r. ⌜ r ≡ lettersOf left right ⌝ }
+{
+    let on_left = places::naming_of(left);
+    let on_right = places::naming_of(right);
+    Letters {
+        s: left.s,
+        left: on_left,
+        right: on_right,
+    }
+}
+
+// What the goals of row r are made of, whose place and set these are.
+fn source_of(left: Side, right: Side, ls: Letters, place: u8, set: u64, r: usize) -> Source
+    requires { ⌜ (ls .s ≤ 16) × (r < 65536) ⌝ }
+    ensures { λ w. ⌜ w ≡ sourceOf left right ls place set r ⌝ }
+{
+    let follow = left.follow;
+    let on_left = ls.left;
+    let on_right = ls.right;
+    let ahead = goals::followers_at(follow, place as usize);
+    let spread = goals::spread_of(right, set);
+    Source {
+        s: ls.s,
+        letters: 1 << (ls.s as u32),
+        left: on_left,
+        right: on_right,
+        follow: ahead,
+        spread: spread,
+        parent: r as u16,
+    }
+}
+
 // One step of a run: row `settled` is bad, or its goals are entered.
 fn step_on(
     places: &mut [u8],
@@ -204,20 +238,7 @@ fn step_on(
             outcome: 2,
         };
     }
-    let follow = left.follow;
-    let ahead = goals::followers_at(follow, place as usize);
-    let spread = goals::spread_of(right, set);
-    let on_left = ls.left;
-    let on_right = ls.right;
-    let from = Source {
-        s: ls.s,
-        letters: 1 << (ls.s as u32),
-        left: on_left,
-        right: on_right,
-        follow: ahead,
-        spread: spread,
-        parent: r as u16,
-    };
+    let from = source_of(left, right, ls, place, set, r);
     let e = enter_goals(
         places,
         sets,
@@ -284,13 +305,7 @@ fn run_sides(
     if held.outcome == 2 {
         return held;
     }
-    let on_left = places::naming_of(left);
-    let on_right = places::naming_of(right);
-    let ls = Letters {
-        s: left.s,
-        left: on_left,
-        right: on_right,
-    };
+    let ls = letters_of(left, right);
     steps_on(
         places,
         sets,

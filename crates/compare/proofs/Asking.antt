@@ -34,7 +34,7 @@ use Rattle.goals.specs.Refusals.{given}
 use Rattle.asking.specs.declared.Asked.{Asked}
 use Rattle.asking.specs.Asked.{askedOf}
 use Rattle.asking.proofs.ask as ask′
-use Rattle.compare.proofs.Values.{D, asked-val, asked-tells, is-asked, hands-uint}
+use Rattle.compare.proofs.Values.{D, Known, known, asking, hands-uint}
 use Rattle.compare.proofs.Walking.{Found, calls-on}
 use Rattle.compare.proofs.call as call′
 use Rattle.compare.proofs.trace_asked as trace′
@@ -87,11 +87,11 @@ module _ {M : Type 1} {𝓤 : URA M} {H : Heap 𝓤} {A : Atoms 𝓤} {K : Type 
   pub asks : K → FmC 𝓤 H (W .laws) C → {f : Name} {xs : List Operand} {d : Place} {rest : Code} → Triple 𝓤 (C f) (Ask 𝓤 H A at-mem run) → ls < 2 ^ 8 → rs < 2 ^ 8
       → Opds K W (raw (Ask 𝓤 H A at-mem run .pre (to-ask 𝓤 H A at-mem run κ₀ κ₁ q₀ q₁ ls x₁ rs x₂)) ∷ Γ) E xs (vint w8 ls ∷ sliceVal (x₁ .ptr) (length (x₁ .now)) ∷ vint w8 rs ∷ sliceVal (x₂ .ptr) (length (x₂ .now)) ∷ [])
       → (k : ℕ) {τ : Ty} {b : ℕ} → nth 𝓤 H A k Γ ≡ ‵ (froom τ b 0) → Found K W E d τ b → ((s : Asked) (w : Val) → Is D s (w ∷ []) → Holds (hasTy τ w) × WT w)
-      → ((s : Asked) → Is D s (asked-val s ∷ []) → s ≡ askedOf (given ls (x₁ .now) rs (x₂ .now)) → Seq K W (‵ (flft κ₀ q₀) ∷ ‵ (flft κ₁ q₁) ∷ put 𝓤 H A k (‵ (fat fullShare τ b 0 (asked-val s))) Γ) (runs C Λ E rest q))
+      → ((s : Asked) → Known asking s → s ≡ askedOf (given ls (x₁ .now) rs (x₂ .now)) → Seq K W (‵ (flft κ₀ q₀) ∷ ‵ (flft κ₁ q₁) ∷ put 𝓤 H A k (‵ (fat fullShare τ b 0 (asking .val s))) Γ) (runs C Λ E rest q))
       → Seq K W (‵ (ShrSlice (named 0) κ₀ u32 .own x₁ (slice-vals x₁)) ∷ ‵ (ShrSlice (named 1) κ₁ u32 .own x₂ (slice-vals x₂)) ∷ ‵ (flft κ₀ q₀) ∷ ‵ (flft κ₁ q₁) ∷ Γ) (runs C Λ E (seq (call f xs d) rest) q)
-  asks t fm known fit-ls fit-rs os k room there typed next =
+  asks t fm met fit-ls fit-rs os k room there typed next =
       nothing t $ move t (2 ∷ 0 ∷ []) $ fjoin t $ hands-uint t w8 rs fit-rs $ move t (1 ∷ 0 ∷ []) $ fjoin t $
       hands-uint t w8 ls fit-ls $ nothing t $ move t (3 ∷ 0 ∷ []) $ join t $ move t (2 ∷ 0 ∷ []) $ join t $
-      calls-on t fm ask′.ended (ask′.clauses 𝓤 H A at-mem run) known (to-ask 𝓤 H A at-mem run κ₀ κ₁ q₀ q₁ ls x₁ rs x₂ .0) tt (id⊢ 𝓤 _) os (λ s ws. s ≡ askedOf (given ls (x₁ .now) rs (x₂ .now))) (λ s ws. id⊢ 𝓤 _)
-      k room there (record { typed = typed; val = λ s w. asked-val s; same = λ s w is. ap only (asked-tells s _ is) })
-      (λ w s ws e is. drop t $ split t $ move t (1 ∷ []) $ split t $ move t (1 ∷ []) $ drop t $ move t (1 ∷ 0 ∷ []) $ next s (is-asked s w is) e)
+      calls-on t fm ask′.ended (ask′.clauses 𝓤 H A at-mem run) met (to-ask 𝓤 H A at-mem run κ₀ κ₁ q₀ q₁ ls x₁ rs x₂ .0) tt (id⊢ 𝓤 _) os (λ s ws. s ≡ askedOf (given ls (x₁ .now) rs (x₂ .now))) (λ s ws. id⊢ 𝓤 _)
+      k room there (record { typed = typed; val = λ s w. asking .val s; same = λ s w is. ap only (asking .tells s _ is) })
+      (λ w s ws e is. drop t $ split t $ move t (1 ∷ []) $ split t $ move t (1 ∷ []) $ drop t $ move t (1 ∷ 0 ∷ []) $ next s (known asking s w is) e)

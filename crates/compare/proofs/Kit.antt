@@ -52,7 +52,7 @@ pub use Rattle.compare.proofs.Frames.{has-each, room-each, dies-each}
 pub use Rattle.compare.proofs.Lent.{lend-row, row-back, share-row, unshare-row, fills}
 pub use Rattle.compare.proofs.Walking.{span, downs, past, upto, Blocks, env, allocs-each, frees-each, here, copied, slices, relends, had, calls-on, meets-by}
 pub use Rattle.compare.proofs.Lending.{N, Long, Quad, four-of, left-in, refs, vals-of, lives, wholes, in-rows, of-column, lend-four, share-four, four-back, unshare-four, four-rooms}
-pub use Rattle.compare.proofs.Values.{R, D, J, S, X, B, asked-val, work-val, run-val, next-val, answer-val, asked-tells, work-tells, used-fits, is-next, is-run, rows-fit, is-answer, typed-asked, typed-work, typed-run, typed-answer, as-usize, as-nothing, as-next, own-run, own-answer, hands-uint, hands-asked, hands-work, hands-run, tells-run, E, as-tracing, own-tracing, looks-run, is-start, as-asked, as-answer, is-run-of}
+pub use Rattle.compare.proofs.Values.{Known, known, typed-as, as-named, as-it-is, as-usize, as-nothing, R, D, J, S, B, E, asking, working, recorded, leaving, answering, traced, used-fits, is-run, rows-fit, is-answer, is-start, is-run-of, makes-of, hands, hands-uint, tells-run, looks-run}
 pub use Rattle.compare.proofs.Loading.{zeros, zeros-is, zeros-long, empty, empty-long, loadable-reaches, Count, Load, Core, Store, Used, TraceOn}
 pub use Rattle.compare.proofs.Calling.{work-loadable, works-rows, work-fits, used-loadable, traces-rows, starts-given, runs-given, traces-given}
 pub use denote.Builtin.{u8, u32, u64}

@@ -28,7 +28,8 @@ use denote.Steps.{nothing}
 use Rattle.goals.specs.declared.Row.{Row}
 use Rattle.goals.specs.declared.Run.{Run}
 use Rattle.compare.proofs.Lent.{boxes, unboxes, array-row, row-array, lend-row, row-back, share-row, unshare-row}
-use Rattle.own_table.proofs.Values.{R, S, Known, makes-of, recorded, Table, tabled}
+use Rattle.compare.proofs.Values.{R, S, Known, makes-of, recorded}
+use Rattle.own_table.proofs.Values.{Table, tabled}
 
 -- ---- a row of elements cut in two, and joined again: the second part lies behind m elements
 module _ {M : Type 1} (𝓤 : URA M) (H : Heap 𝓤) (A : Atoms 𝓤) (W : Given 𝓤 H A) (R : RattleType) (q : Share) where

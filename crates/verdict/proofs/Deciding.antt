@@ -14,7 +14,7 @@ use Rattle.goals.specs.Run.{State, started}
 use Rattle.goals.specs.Refusals.{Given, recordOf, Against, against, againstOf, startRefusal, runRefusal, Reply, Leaves, leaves, exit, valuesOf, runAfter}
 use Rattle.columns.specs.declared.Called.{Called}
 use Rattle.columns.specs.declared.Called.the-variants as called-variants
-use Rattle.columns.specs.Tables as core
+use Rattle.columns.proofs.Tables as core
 use Rattle.columns.specs.Calls.{Columns, put, lentIn, called}
 use Rattle.columns.specs.Core.{Fits}
 use Rattle.columns.proofs.Laws.{put-put, rows-put, fits-put}

@@ -13,7 +13,7 @@ use Rattle.goals.specs.declared.Run.{Run}
 use Rattle.goals.specs.Refusals.{Given, Against, against, startRefusal, recordOf}
 use Rattle.columns.specs.declared.Tracing.{Tracing}
 use Rattle.columns.specs.declared.Tracing.the-variants as tracing-variants
-use Rattle.columns.specs.Tables as core
+use Rattle.columns.proofs.Tables as core
 use Rattle.columns.specs.Calls.{Columns, tracing}
 use Rattle.verdict.specs.Lines.{outcomeLine, countsLine, traceLine, refusedLine, endedLines}
 use Rattle.verdict.specs.Program.{endedOn}

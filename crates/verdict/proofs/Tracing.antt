@@ -15,7 +15,7 @@ use Rattle.goals.specs.Run.{State, wordIn, traceOf}
 use Rattle.goals.specs.Refusals.{Given, recordOf, against, startRefusal, traceRefusal, Leaves, leaves}
 use Rattle.columns.specs.declared.Tracing.{Tracing}
 use Rattle.columns.specs.declared.Tracing.the-variants as tracing-variants
-use Rattle.columns.specs.Tables as core
+use Rattle.columns.proofs.Tables as core
 use Rattle.columns.specs.Calls.{Columns, lentIn, stateOf, tracing}
 use Rattle.columns.proofs.Budget.{state-held}
 use Rattle.demands.proofs.Accepting.{trace-passes, accepted-leaves}

@@ -25,22 +25,18 @@ returns-2 c =
     (columns (a .places .now) (a .sets .now) (a .parents .now) (a .letters .now)) (a .room) (a .left) (a .right) (a .held) (s .pre)
     (a .budget) (ap₂ _||_ (ne-eqb _ _ (c .before .before .if1 .left)) (eq-eqb _ _ (c .if2 .taken)))
 
-naming-of-requires : tie.Need-naming-of-requires
-naming-of-requires c κs = search needs
-
-naming-of-requires-2 : tie.Need-naming-of-requires-2
-naming-of-requires-2 c κs = search needs
+letters-of-requires : tie.Need-letters-of-requires
+letters-of-requires c κs = search needs
 
 steps-on-requires : tie.Need-steps-on-requires
 steps-on-requires c κs =
     let n = c .before .before .before .before in
-    let e = n .before .before in
+    let e = n .before in
     let s = e .before .before .before .before .before .before .before .before in
     let a = s .args in
     run-ready
     (columns (a .places .now) (a .sets .now) (a .parents .now) (a .letters .now)) (a .room) (a .left) (a .right) (a .held) (s .pre)
-    (n .before .naming-of .result) (n .naming-of2 .result) (n .before .naming-of .ensures) (n .naming-of2 .ensures)
-    (e .before .before .if1 .left)
+    (n .letters-of .result) (n .letters-of .ensures) (e .before .before .if1 .left)
 
 same-length : tie.Need-same-length
 same-length c = search needs
@@ -57,7 +53,7 @@ same-length-4 c = search needs
 returns-3 : tie.Need-returns-3
 returns-3 c =
     let e = c .before .before .before .before .before .before .before .before .steps-on in
-    let l = c .before .before .before .before .before .before .before .before .before .before .before .before .before .before .before in
+    let l = c .before .before .before .before .before .before .before .before .before .before .before .before .before .before in
     let s = l .before .before .before .before .before .before .before .before in
     let a = s .args in
     run-goes
@@ -71,8 +67,7 @@ run-sides-spec =
     (tie.spec
     returns
     returns-2
-    naming-of-requires
-    naming-of-requires-2
+    letters-of-requires
     steps-on-requires
     same-length
     same-length-2

@@ -1,9 +1,8 @@
 -- `columns::step_on`: a bad row ends the run (`step-bad`), any other is settled or finds no room (`step-next`).
 use native.Mathlib.Omega.{arith}
 use borrow.Author.Needs.{needs}
-use Rattle.bits.proofs.Laws.{shl-one}
 use Rattle.columns.specs.Calls.{Columns, columns}
-use Rattle.columns.proofs.Stepping.{step-bad, by-shift, step-next, enters-most}
+use Rattle.columns.proofs.Stepping.{step-bad, step-next, enters-most}
 use Rattle.columns.proofs.step_on.Statement.{statement}
 use Rattle.columns.proofs.step_on.Tie as tie
 
@@ -14,9 +13,12 @@ start b = b .before .before .before .before .before .before .before .before
 abbrev lent : tie.Start → Columns
 lent s = let a = s .args in columns (a .places .now) (a .sets .now) (a .parents .now) (a .letters .now)
 
--- where the row was asked after, seen from where the goals were entered, and the columns as these left them
+-- where the goals' source was made and where the row was asked after, seen from where the goals were entered, and the columns as these left them
+abbrev sourced : tie.After-enter-goals → tie.After-source-of
+sourced e = e .before .before .before .before .before .before
+
 abbrev asked : tie.After-enter-goals → tie.After-is-bad
-asked e = e .before .before .before .before .before .before .before .before .before .before .before .before .before
+asked e = sourced e .before .before
 
 abbrev left : tie.After-enter-goals → Columns
 left e = let z = e .enter-goals .last in columns (z .0) (z .1 .0) (z .1 .1 .0) (z .1 .1 .1 .0)
@@ -47,25 +49,10 @@ returns c =
     let a = s .args in
     step-bad (lent s) (a .room) (a .left) (a .right) (a .ls) (a .run) (s .pre) (b .is-bad .result) (b .is-bad .ensures) (c .if1 .taken)
 
-cast-followers-at : tie.Need-cast-followers-at
-cast-followers-at c =
-    let s = c .before .before .before .before .before .before .before .before .before .before in
-    omega (arith, c .before .before .before .before .slice-known5 .given (s .args .run .settled))
-
-followers-at-requires : tie.Need-followers-at-requires
-followers-at-requires c κs = search needs
-
-spread-of-requires : tie.Need-spread-of-requires
-spread-of-requires c κs = search needs
-
-cast-t26 : tie.Need-cast-t26
-cast-t26 c = search needs
-
-shl-t27 : tie.Need-shl-t27
-shl-t27 c = search needs
-
-cast-t28 : tie.Need-cast-t28
-cast-t28 c = search needs
+source-of-requires : tie.Need-source-of-requires
+source-of-requires c κs =
+    let s = start (c .before) in
+    (s .pre .few, omega (arith, s .pre .left-over, s .pre .fits .used, s .pre .fits .small))
 
 cast-enter-goals : tie.Need-cast-enter-goals
 cast-enter-goals c = search needs
@@ -99,13 +86,10 @@ returns-2 c =
     let b = asked e in
     let s = start b in
     let a = s .args in
-    let g = e .before .before .before .before .before .before .before .before .before in
-    let f = g .before in
+    let f = sourced e in
     step-next
-    (lent s) (a .room) (a .left) (a .right) (a .ls) (a .run) (s .pre) (left e) (b .is-bad .result) (f .followers-at .result) (g .spread-of .result)
-    (e .enter-goals .result) (c .settled .result) (b .is-bad .ensures) (f .before .before .if1 .left) (f .followers-at .ensures) (g .spread-of .ensures)
-    (by-shift (lent s) (left e) (a .room) (a .run .used) _ (a .ls) (f .followers-at .result) (g .spread-of .result) (a .run .settled) (e .enter-goals .result)
-    (shl-one 32 (a .ls .s) (omega (arith, s .pre .few))) (e .enter-goals .ensures))
+    (lent s) (a .room) (a .left) (a .right) (a .ls) (a .run) (s .pre) (left e) (b .is-bad .result) (f .source-of .result)
+    (e .enter-goals .result) (c .settled .result) (b .is-bad .ensures) (f .before .if1 .left) (f .source-of .ensures) (e .enter-goals .ensures)
     (c .settled .ensures)
 
 pub step-on-spec : {M : Type 1} → statement M
@@ -118,12 +102,7 @@ step-on-spec =
     slice-read-set
     is-bad-requires
     returns
-    cast-followers-at
-    followers-at-requires
-    spread-of-requires
-    cast-t26
-    shl-t27
-    cast-t28
+    source-of-requires
     cast-enter-goals
     enter-goals-requires
     settled-requires

@@ -1,12 +1,11 @@
 -- `run`, a walk of its MIR by hand: two calls. `ask` makes both sides of the tables, and `call` is handed them by value, with the rows and
 -- the record for good. The answer is returned as `call` gave it.
-use Rattle.compare.proofs.Kit.{_≡_, refl, ℕ, _<_, _^_, [], _∷_, List, length, URA, Local, named, w8, w64, Val, vint, vptr, SProp, ent, id⊢, Lft, Share, ftrue, flft, Memory, Routine, Heap, Env, Wp, atReturn, WpFn}
-use Rattle.compare.proofs.Kit.{Tables, Atoms, Fun, Given, Item, atRet, ‵, _⊛_, ⋆, _$_, _∵_, !, qed, by, move, keep, drop, split, join, fsplit, fjoin, feqL, suffices, frame, done, look, init, forget, stop, hop, from}
-use Rattle.compare.proofs.Kit.{lit, addr, and-then, no-more, assigns, returns, enter, params1, pass1, pass0, exec, agg, FmC, fmOf, owns, Is, uint-vals, uint-tells, u8, u32, u64, yes, RefT, MutRef, ptr-vals, mut-tells}
-use Rattle.compare.proofs.Kit.{sliceVal, MutSlice, Room, slice-vals, mut-slice-tells, plain, nothing, onEntry, Meets, tripleOf, Triple, entered, cited, says, Stays, stay-dropped, walkOf, AllGo, goes-dropped, ends-at}
-use Rattle.compare.proofs.Kit.{Asked, Row, Run, lent, Work, answered, Works, ShrSlice, shr-slice-tells, finally, gave-slice, goes-gave-slice, given, fres, gave-ref, goes-gave-ref, askedOf, Answered, Tables′, Runs}
-use Rattle.compare.proofs.Kit.{Clauses, has-each, room-each, dies-each, span, downs, past, upto, Blocks, env, allocs-each, frees-each, here, copied, relends, calls-on, meets-by, R, D, J, S, B, asked-val, work-val}
-use Rattle.compare.proofs.Kit.{is-run-of, typed-work, as-asked, as-answer, own-answer, hands-asked, hands-work, runs-given}
+use Rattle.compare.proofs.Kit.{_≡_, refl, ℕ, _<_, _^_, [], _∷_, List, length, URA, Local, named, w8, w64, Val, vint, vptr, SProp, ent, id⊢, Lft, Share, ftrue, flft, Memory, Routine, Heap, Env, Wp, atReturn, WpFn, Tables, Atoms, Fun, Given}
+use Rattle.compare.proofs.Kit.{Item, atRet, ‵, _⊛_, ⋆, _$_, _∵_, !, qed, by, move, keep, drop, split, join, fsplit, fjoin, feqL, suffices, frame, done, look, init, forget, stop, hop, from, lit, addr, and-then, no-more, assigns, returns}
+use Rattle.compare.proofs.Kit.{enter, params1, pass1, pass0, exec, agg, FmC, fmOf, owns, Is, uint-vals, uint-tells, u8, u32, u64, yes, RefT, MutRef, ptr-vals, mut-tells, sliceVal, MutSlice, Room, slice-vals, mut-slice-tells, plain, nothing}
+use Rattle.compare.proofs.Kit.{onEntry, Meets, tripleOf, Triple, entered, cited, says, Stays, stay-dropped, walkOf, AllGo, goes-dropped, ends-at, Asked, Row, Run, lent, Work, answered, Works, ShrSlice, shr-slice-tells, finally, gave-slice}
+use Rattle.compare.proofs.Kit.{goes-gave-slice, given, fres, gave-ref, goes-gave-ref, askedOf, Answered, Tables′, Runs, Clauses, has-each, room-each, dies-each, span, downs, past, upto, Blocks, env, allocs-each, frees-each, here, copied}
+use Rattle.compare.proofs.Kit.{relends, calls-on, meets-by, R, S, B, is-run-of, runs-given, Known, asking, working, answering, makes-of, hands, as-it-is}
 use Rattle.compare.specs.declared.Work.the-variants as work-variants
 use contract.Running.{givenOf, tables, tablesOf}
 use Rattle.compare.proofs.Asking.{Ask, Call, asks, stay-tables, goes-tables, after-tables}
@@ -49,7 +48,7 @@ module _ {M : Type 1} (𝓤 : URA M) (H : Heap 𝓤) (A : Atoms 𝓤) (W : Given
     abbrev work : Work
     work = work-variants.Run budget
 
-    is-work : Is J work (work-val work ∷ [])
+    is-work : Known working work
     is-work = is-run-of budget fit-budget
 
     abbrev Says : Answered → List Row → Run → Type 0
@@ -64,7 +63,7 @@ module _ {M : Type 1} (𝓤 : URA M) (H : Heap 𝓤) (A : Atoms 𝓤) (W : Given
         qed W (Left zs rec) ∵ suffices ! _ (ends-at 𝓤 H A this.ended stayed cl W y w r (tt, (tt, (tt, (tt, (zs, (rec, (tt, tt))))))) (tt, (tt, (tt, (tt, (len, (tt, (tt, tt)))))))) $ says ! e $
         nothing ! $ move ! (4 ∷ 0 ∷ []) $ join ! $ move ! (3 ∷ 0 ∷ []) $ join ! $ move ! (2 ∷ 0 ∷ []) $ join ! $ move ! (1 ∷ 0 ∷ []) $ join ! $ frame ! $ nothing ! $ nothing ! $ fjoin ! $ move ! (2 ∷ 0 ∷ []) $
         fjoin ! $ move ! (1 ∷ 0 ∷ []) $ fjoin ! $ nothing ! $ fjoin ! $ nothing ! $ fjoin ! $ nothing ! $ fjoin ! $ nothing ! $ fjoin ! $ frame ! $
-        own-answer ! r is-r $ done !
+        makes-of ! answering r _ is-r $ done !
 
     -- ---- the walk, in a lemma for each call
     module _ (l : Blocks locals) where
@@ -80,22 +79,22 @@ module _ {M : Type 1} (𝓤 : URA M) (H : Heap 𝓤) (A : Atoms 𝓤) (W : Given
 
       -- once `ask` has answered
       abbrev Made : Asked → List (Item 𝓤)
-      Made s = ‵ (flft κ₀ q₀) ∷ ‵ (flft κ₁ q₁) ∷ At (asked-val s ∷ []) 9
+      Made s = ‵ (flft κ₀ q₀) ∷ ‵ (flft κ₁ q₁) ∷ At (asking .val s ∷ []) 9
 
-      from-call : (s : Asked) → Is D s (asked-val s ∷ []) → s ≡ askedOf g → ent 𝓤 (⋆ 𝓤 H A (Made s)) (Wp 𝓤 H (𝓣 .C) (𝓣 .Λ) En code.Mir.t-2 (atReturn 𝓤 H En Post))
+      from-call : (s : Asked) → Known asking s → s ≡ askedOf g → ent 𝓤 (⋆ 𝓤 H A (Made s)) (Wp 𝓤 H (𝓣 .C) (𝓣 .Λ) En code.Mir.t-2 (atReturn 𝓤 H En Post))
       from-call s is-s e₁ =
           qed W (Made s) ∵ exec ! (𝓣 .C) (𝓣 .Λ) En code.Mir.t-2 (atRet En Post) $
           -- the rows and the record, lent on, and the work
           relends ! 11 7 refl refl refl refl refl refl (tt, tt) (tt, (tt, (record { fits = room-rows .0 }, tt))) (here !) (here !) $
           assigns ! (addr ! (from ! (hop ! (look ! 8 refl) (stop !)))) (from ! (stop !)) (init ! 13 refl (tt, tt)) $
-          assigns ! (agg ! (and-then ! (lit ! tt) (and-then ! (copied ! 9 refl) (no-more !)))) (from ! (stop !)) (init ! 14 refl (typed-work 𝓤 H A W work _ is-work)) $
+          assigns ! (agg ! (and-then ! (lit ! tt) (and-then ! (copied ! 9 refl) (no-more !)))) (from ! (stop !)) (init ! 14 refl (working .typed 𝓤 H A W work _ is-work)) $
           -- the rows and the record are handed on, with their tokens
-          nothing ! $ hands-work ! work is-work $ move ! (17 ∷ 0 ∷ []) $ fjoin ! $ move ! (16 ∷ 0 ∷ []) $ fjoin ! $
-          hands-asked ! s is-s $ nothing ! $ move ! (18 ∷ 0 ∷ []) $ join ! $ move ! (17 ∷ 0 ∷ []) $ join ! $
+          nothing ! $ hands ! working work is-work $ move ! (17 ∷ 0 ∷ []) $ fjoin ! $ move ! (16 ∷ 0 ∷ []) $ fjoin ! $
+          hands ! asking s is-s $ nothing ! $ move ! (18 ∷ 0 ∷ []) $ join ! $ move ! (17 ∷ 0 ∷ []) $ join ! $
           -- the call
-          calls-on ! fm call′.ended (call′.clauses 𝓤 H A at-mem run) known-call ((κ₂, (κ₃, tt)), (q₂, (q₃, tt)), tt, (s, (x₃, (x₄, (work, tt)))), (asked-val s ∷ [], (slice-vals x₃, (ptr-vals x₄, (work-val work ∷ [], tt))))) tt (id⊢ 𝓤 _)
+          calls-on ! fm call′.ended (call′.clauses 𝓤 H A at-mem run) known-call ((κ₂, (κ₃, tt)), (q₂, (q₃, tt)), tt, (s, (x₃, (x₄, (work, tt)))), (asking .val s ∷ [], (slice-vals x₃, (ptr-vals x₄, (working .val work ∷ [], tt))))) tt (id⊢ 𝓤 _)
           (and-then ! (copied ! 11 refl) (and-then ! (copied ! 13 refl) (and-then ! (copied ! 14 refl) (and-then ! (copied ! 15 refl) (no-more !)))))
-          (λ r ws. Works work s (lent (x₃ .now) (x₄ .now)) (answered r) (lent (ws .1 .0) (ws .1 .1 .0))) (λ r ws. id⊢ 𝓤 _) 2 refl (here !) (as-answer 𝓤 H A W) (λ w r ws e is-r.
+          (λ r ws. Works work s (lent (x₃ .now) (x₄ .now)) (answered r) (lent (ws .1 .0) (ws .1 .1 .0))) (λ r ws. id⊢ 𝓤 _) 2 refl (here !) (as-it-is 𝓤 H A W answering) (λ w r ws e is-r.
           fsplit ! $ drop ! $ fsplit ! $ fsplit ! $ move ! (1 ∷ []) $ feqL ! (λ len. move ! (1 ∷ []) $ fsplit ! $ move ! (3 ∷ []) $ split ! $ move ! (1 ∷ []) $ split ! $ move ! (1 ∷ []) $
           -- every local is freed
           returns ! (look ! 8 refl) $ forget ! 8 refl $ forget ! 9 refl $ forget ! 10 refl $ forget ! 11 refl $ forget ! 12 refl $ forget ! 13 refl $ forget ! 14 refl $ forget ! 15 refl $ forget ! 16 refl $
@@ -108,7 +107,7 @@ module _ {M : Type 1} (𝓤 : URA M) (H : Heap 𝓤) (A : Atoms 𝓤) (W : Given
       from-begin : ent 𝓤 (⋆ 𝓤 H A Begin) (Wp 𝓤 H (𝓣 .C) (𝓣 .Λ) En code.Mir.t-1 (atReturn 𝓤 H En Post))
       from-begin =
           qed W Begin ∵ exec ! (𝓣 .C) (𝓣 .Λ) En code.Mir.t-1 (atRet En Post) $ asks at-mem run κ₀ κ₁ q₀ q₁ ls x₁ rs x₂ ! fm known-ask fit-ls fit-rs
-          (and-then ! (copied ! 2 refl) (and-then ! (copied ! 3 refl) (and-then ! (copied ! 4 refl) (and-then ! (copied ! 5 refl) (no-more !))))) 8 refl (here !) (as-asked 𝓤 H A W .typed) (λ s is-s e. by ! (from-call s is-s e))
+          (and-then ! (copied ! 2 refl) (and-then ! (copied ! 3 refl) (and-then ! (copied ! 4 refl) (and-then ! (copied ! 5 refl) (no-more !))))) 8 refl (here !) (asking .typed 𝓤 H A W) (λ s is-s e. by ! (from-call s is-s e))
 
     walk : ent 𝓤 (onEntry 𝓤 H A this.signature (y .0 .0) (y .0 .1) (y .0 .3) (y .0 .4)) (WpFn 𝓤 H (𝓣 .C) (𝓣 .Λ) code.function (passed []) Post)
     walk =

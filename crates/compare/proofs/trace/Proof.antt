@@ -1,11 +1,11 @@
 -- `trace`, a walk of its MIR by hand: two calls. `ask` makes both sides of the tables, and `trace_asked` is handed them by value, with the
 -- rows and the record to read and the buffer for good. The answer is returned as `trace_asked` gave it.
-use Rattle.compare.proofs.Kit.{_≡_, refl, ℕ, _<_, _^_, [], _∷_, List, length, URA, Local, named, w8, Val, vint, vptr, SProp, ent, id⊢, Lft, Share, ftrue, flft, Memory, Routine, Heap, Env, Wp, atReturn, WpFn, Tables}
-use Rattle.compare.proofs.Kit.{Atoms, Fun, Given, Item, atRet, ‵, _⊛_, ⋆, _$_, _∵_, !, qed, by, move, keep, drop, split, join, fsplit, fjoin, feqL, suffices, frame, done, look, init, forget, and-then, no-more, returns}
-use Rattle.compare.proofs.Kit.{enter, params1, pass1, pass0, exec, FmC, fmOf, owns, Is, uint-vals, uint-tells, u8, u32, yes, RefT, ptr-vals, sliceVal, MutSlice, Room, slice-vals, mut-slice-tells, plain, nothing}
-use Rattle.compare.proofs.Kit.{onEntry, Meets, tripleOf, Triple, entered, cited, says, Stays, stay-dropped, walkOf, AllGo, goes-dropped, ends-at, Asked, Row, Run, lent, ShrRef, shr-tells, ShrSlice, shr-slice-tells}
-use Rattle.compare.proofs.Kit.{finally, shrRefTo, shrSliceOf, gave-slice, goes-gave-slice, given, Traces, Tracing, tracing, TracesAsked, askedOf, Tables′, Clauses, has-each, room-each, dies-each, span, downs, past}
-use Rattle.compare.proofs.Kit.{upto, Blocks, env, allocs-each, frees-each, here, copied, relends, calls-on, meets-by, R, D, S, E, asked-val, as-asked, as-tracing, own-tracing, hands-asked, traces-given}
+use Rattle.compare.proofs.Kit.{_≡_, refl, ℕ, _<_, _^_, [], _∷_, List, length, URA, Local, named, w8, Val, vint, vptr, SProp, ent, id⊢, Lft, Share, ftrue, flft, Memory, Routine, Heap, Env, Wp, atReturn, WpFn, Tables, Atoms, Fun, Given, Item}
+use Rattle.compare.proofs.Kit.{atRet, ‵, _⊛_, ⋆, _$_, _∵_, !, qed, by, move, keep, drop, split, join, fsplit, fjoin, feqL, suffices, frame, done, look, init, forget, and-then, no-more, returns, enter, params1, pass1, pass0, exec, FmC, fmOf}
+use Rattle.compare.proofs.Kit.{owns, Is, uint-vals, uint-tells, u8, u32, yes, RefT, ptr-vals, sliceVal, MutSlice, Room, slice-vals, mut-slice-tells, plain, nothing, onEntry, Meets, tripleOf, Triple, entered, cited, says, Stays, stay-dropped}
+use Rattle.compare.proofs.Kit.{walkOf, AllGo, goes-dropped, ends-at, Asked, Row, Run, lent, ShrRef, shr-tells, ShrSlice, shr-slice-tells, finally, shrRefTo, shrSliceOf, gave-slice, goes-gave-slice, given, Traces, Tracing, tracing}
+use Rattle.compare.proofs.Kit.{TracesAsked, askedOf, Tables′, Clauses, has-each, room-each, dies-each, span, downs, past, upto, Blocks, env, allocs-each, frees-each, here, copied, relends, calls-on, meets-by, R, S, E, traces-given, Known}
+use Rattle.compare.proofs.Kit.{asking, traced, makes-of, hands, as-it-is}
 use contract.Running.{givenOf, tables, tablesOf}
 use Rattle.compare.proofs.Asking.{Ask, Trace, asks, stay-tables, goes-tables, after-tables}
 use Rattle.asking.proofs.ask as ask′
@@ -56,7 +56,7 @@ module _ {M : Type 1} (𝓤 : URA M) (H : Heap 𝓤) (A : Atoms 𝓤) (W : Given
         qed W (Left zs) ∵ suffices ! _ (ends-at 𝓤 H A this.ended stayed cl W y w r (tt, (tt, (tt, (tt, (tt, (tt, (zs, tt))))))) (tt, (tt, (tt, (tt, (tt, (tt, (len, tt)))))))) $ says ! e $
         nothing ! $ move ! (5 ∷ 0 ∷ []) $ join ! $ move ! (4 ∷ 0 ∷ []) $ join ! $ move ! (3 ∷ 0 ∷ []) $ join ! $ move ! (2 ∷ 0 ∷ []) $ join ! $ move ! (1 ∷ 0 ∷ []) $ join ! $ frame ! $ nothing ! $
         move ! (1 ∷ 0 ∷ []) $ fjoin ! $ nothing ! $ fjoin ! $ nothing ! $ fjoin ! $ nothing ! $ fjoin ! $ nothing ! $ fjoin ! $ nothing ! $ fjoin ! $ nothing ! $ fjoin ! $ frame ! $
-        own-tracing ! r is-r $ done !
+        makes-of ! traced r _ is-r $ done !
 
     -- ---- the walk, in a lemma for each call
     module _ (l : Blocks locals) where
@@ -72,20 +72,20 @@ module _ {M : Type 1} (𝓤 : URA M) (H : Heap 𝓤) (A : Atoms 𝓤) (W : Given
 
       -- once `ask` has answered
       abbrev Made : Asked → List (Item 𝓤)
-      Made s = ‵ (flft κ₀ q₀) ∷ ‵ (flft κ₁ q₁) ∷ At (asked-val s ∷ []) 9
+      Made s = ‵ (flft κ₀ q₀) ∷ ‵ (flft κ₁ q₁) ∷ At (asking .val s ∷ []) 9
 
-      from-call : (s : Asked) → Is D s (asked-val s ∷ []) → s ≡ askedOf g → ent 𝓤 (⋆ 𝓤 H A (Made s)) (Wp 𝓤 H (𝓣 .C) (𝓣 .Λ) En code.Mir.t-2 (atReturn 𝓤 H En Post))
+      from-call : (s : Asked) → Known asking s → s ≡ askedOf g → ent 𝓤 (⋆ 𝓤 H A (Made s)) (Wp 𝓤 H (𝓣 .C) (𝓣 .Λ) En code.Mir.t-2 (atReturn 𝓤 H En Post))
       from-call s is-s e₁ =
           qed W (Made s) ∵ exec ! (𝓣 .C) (𝓣 .Λ) En code.Mir.t-2 (atRet En Post) $
           -- the buffer, lent on
           relends ! 11 9 refl refl refl refl refl refl (tt, tt) (tt, (tt, (record { fits = room-out .0 }, tt))) (here !) (here !) $
           -- the rows, the record and the buffer are handed on, with their tokens
-          nothing ! $ move ! (16 ∷ 0 ∷ []) $ fjoin ! $ move ! (15 ∷ 0 ∷ []) $ fjoin ! $ move ! (14 ∷ 0 ∷ []) $ fjoin ! $ hands-asked ! s is-s $
+          nothing ! $ move ! (16 ∷ 0 ∷ []) $ fjoin ! $ move ! (15 ∷ 0 ∷ []) $ fjoin ! $ move ! (14 ∷ 0 ∷ []) $ fjoin ! $ hands ! asking s is-s $
           nothing ! $ move ! (17 ∷ 0 ∷ []) $ join ! $ move ! (16 ∷ 0 ∷ []) $ join ! $ move ! (15 ∷ 0 ∷ []) $ join ! $
           -- the call
-          calls-on ! fm trace′.ended (trace′.clauses 𝓤 H A at-mem run) known-call ((κ₂, (κ₃, (κ₄, tt))), (q₂, (q₃, (q₄, tt))), tt, (s, (x₃, (x₄, (x₅, tt)))), (asked-val s ∷ [], (slice-vals x₃, (ptr-vals x₄, (slice-vals x₅, tt))))) tt (id⊢ 𝓤 _)
+          calls-on ! fm trace′.ended (trace′.clauses 𝓤 H A at-mem run) known-call ((κ₂, (κ₃, (κ₄, tt))), (q₂, (q₃, (q₄, tt))), tt, (s, (x₃, (x₄, (x₅, tt)))), (asking .val s ∷ [], (slice-vals x₃, (ptr-vals x₄, (slice-vals x₅, tt))))) tt (id⊢ 𝓤 _)
           (and-then ! (copied ! 11 refl) (and-then ! (copied ! 8 refl) (and-then ! (copied ! 9 refl) (and-then ! (copied ! 13 refl) (no-more !)))))
-          (λ r ws. TracesAsked s (lent (x₃ .now) (x₄ .now)) (x₅ .now) (tracing r) (ws .1 .1 .1 .0)) (λ r ws. id⊢ 𝓤 _) 2 refl (here !) (as-tracing 𝓤 H A W) (λ w r ws e is-r.
+          (λ r ws. TracesAsked s (lent (x₃ .now) (x₄ .now)) (x₅ .now) (tracing r) (ws .1 .1 .1 .0)) (λ r ws. id⊢ 𝓤 _) 2 refl (here !) (as-it-is 𝓤 H A W traced) (λ w r ws e is-r.
           fsplit ! $ drop ! $ fsplit ! $ drop ! $ fsplit ! $ drop ! $ fsplit ! $ fsplit ! $ move ! (1 ∷ []) $ feqL ! (λ len. move ! (2 ∷ []) $ split ! $ move ! (1 ∷ []) $ split ! $ move ! (1 ∷ []) $ split ! $
           move ! (1 ∷ []) $
           -- every local is freed
@@ -99,7 +99,7 @@ module _ {M : Type 1} (𝓤 : URA M) (H : Heap 𝓤) (A : Atoms 𝓤) (W : Given
       from-begin : ent 𝓤 (⋆ 𝓤 H A Begin) (Wp 𝓤 H (𝓣 .C) (𝓣 .Λ) En code.Mir.t-1 (atReturn 𝓤 H En Post))
       from-begin =
           qed W Begin ∵ exec ! (𝓣 .C) (𝓣 .Λ) En code.Mir.t-1 (atRet En Post) $ asks at-mem run κ₀ κ₁ q₀ q₁ ls x₁ rs x₂ ! fm known-ask fit-ls fit-rs
-          (and-then ! (copied ! 2 refl) (and-then ! (copied ! 3 refl) (and-then ! (copied ! 4 refl) (and-then ! (copied ! 5 refl) (no-more !))))) 8 refl (here !) (as-asked 𝓤 H A W .typed) (λ s is-s e. by ! (from-call s is-s e))
+          (and-then ! (copied ! 2 refl) (and-then ! (copied ! 3 refl) (and-then ! (copied ! 4 refl) (and-then ! (copied ! 5 refl) (no-more !))))) 8 refl (here !) (asking .typed 𝓤 H A W) (λ s is-s e. by ! (from-call s is-s e))
 
     walk : ent 𝓤 (onEntry 𝓤 H A this.signature (y .0 .0) (y .0 .1) (y .0 .3) (y .0 .4)) (WpFn 𝓤 H (𝓣 .C) (𝓣 .Λ) code.function (passed []) Post)
     walk =

@@ -1,14 +1,13 @@
 -- `trace_asked`, a walk of its MIR by hand, in a lemma for each call. The rows are lent on to `load`, and the four columns and the buffer to
 -- `trace_on`, which decides all. The sides go through by value. The answer is returned as `trace_on` gave it.
-use Rattle.compare.proofs.Kit.{_≡_, refl, sym, ℕ, _<_, _^_, min, arith, [], _∷_, List, lit<, length, take, URA, Local, Body′, named, imm, mut, w8, w16, w32, w64, Val, vint, vptr, SProp, ent, id⊢, Lft, Share, ftrue}
-use Rattle.compare.proofs.Kit.{flft, fobor, Memory, Routine, Heap, Env, Wp, atReturn, WpFn, Tables, Atoms, Fun, Given, Item, atRet, ‵, _⊛_, ⋆, _$_, _∵_, !, qed, by, move, keep, drop, split, join, fsplit, fsplit3, fjoin}
-use Rattle.compare.proofs.Kit.{feqL, suffices, frame, done, look, look-raw, init, forget, stop, hop, fld, from, load, lit, of-opd, and-then, no-more, assigns, returns, enter, params1, pass1, pass0, exec, whole, sub}
-use Rattle.compare.proofs.Kit.{look-in, FmC, fmOf, owns, Is, cellAt, u8, yes, RefT, ptr-vals, sliceVal, MutSlice, Room, slice-vals, mut-slice-tells, plain, nothing, onEntry, Meets, tripleOf, Triple, entered, cited}
-use Rattle.compare.proofs.Kit.{says, Stays, stay-dropped, walkOf, AllGo, goes-dropped, ends-at, roomOf, Asked, Row, Run, Columns, put, lent, fshr-bor, partAt, ShrRef, shr-tells, ShrSlice, shr-slice-tells, finally}
-use Rattle.compare.proofs.Kit.{shrRefTo, shrSliceOf, shuts, gave-slice, goes-gave-slice, Tracing, tracing, TracesAsked, Clauses, has-each, room-each, dies-each, fills, span, downs, past, upto, Blocks, env, allocs-each}
-use Rattle.compare.proofs.Kit.{frees-each, here, copied, slices, relends, had, calls-on, meets-by, N, Long, Quad, four-of, left-in, refs, vals-of, lives, wholes, in-rows, of-column, lend-four, share-four, four-back}
-use Rattle.compare.proofs.Kit.{unshare-four, four-rooms, R, D, S, E, asked-val, run-val, asked-tells, used-fits, typed-asked, typed-run, as-usize, as-nothing, as-tracing, own-run, own-tracing, hands-uint, hands-asked}
-use Rattle.compare.proofs.Kit.{hands-run, looks-run, zeros, zeros-is, zeros-long, empty, empty-long, loadable-reaches, Used, Load, TraceOn, used-loadable, traces-rows}
+use Rattle.compare.proofs.Kit.{_≡_, refl, sym, ℕ, _<_, _^_, min, arith, [], _∷_, List, lit<, length, take, URA, Local, Body′, named, imm, mut, w8, w16, w32, w64, Val, vint, vptr, SProp, ent, id⊢, Lft, Share, ftrue, flft, fobor, Memory}
+use Rattle.compare.proofs.Kit.{Routine, Heap, Env, Wp, atReturn, WpFn, Tables, Atoms, Fun, Given, Item, atRet, ‵, _⊛_, ⋆, _$_, _∵_, !, qed, by, move, keep, drop, split, join, fsplit, fsplit3, fjoin, feqL, suffices, frame, done, look}
+use Rattle.compare.proofs.Kit.{look-raw, init, forget, stop, hop, fld, from, load, lit, of-opd, and-then, no-more, assigns, returns, enter, params1, pass1, pass0, exec, whole, sub, look-in, FmC, fmOf, owns, Is, cellAt, u8, yes, RefT}
+use Rattle.compare.proofs.Kit.{ptr-vals, sliceVal, MutSlice, Room, slice-vals, mut-slice-tells, plain, nothing, onEntry, Meets, tripleOf, Triple, entered, cited, says, Stays, stay-dropped, walkOf, AllGo, goes-dropped, ends-at, roomOf, Asked}
+use Rattle.compare.proofs.Kit.{Row, Run, Columns, put, lent, fshr-bor, partAt, ShrRef, shr-tells, ShrSlice, shr-slice-tells, finally, shrRefTo, shrSliceOf, shuts, gave-slice, goes-gave-slice, Tracing, tracing, TracesAsked, Clauses, has-each}
+use Rattle.compare.proofs.Kit.{room-each, dies-each, fills, span, downs, past, upto, Blocks, env, allocs-each, frees-each, here, copied, slices, relends, had, calls-on, meets-by, N, Long, Quad, four-of, left-in, refs, vals-of, lives, wholes}
+use Rattle.compare.proofs.Kit.{in-rows, of-column, lend-four, share-four, four-back, unshare-four, four-rooms, R, D, S, E, used-fits, as-usize, as-nothing, hands-uint, looks-run, zeros, zeros-is, zeros-long, empty, empty-long}
+use Rattle.compare.proofs.Kit.{loadable-reaches, Used, Load, TraceOn, used-loadable, traces-rows, Known, asking, recorded, traced, makes-of, hands, as-it-is}
 use contract.Running.{givenOf, tables, tablesOf}
 use Rattle.columns.specs.Calls as on-columns
 use Rattle.compare.proofs.used_within as used
@@ -34,7 +33,7 @@ module _ {M : Type 1} (𝓤 : URA M) (H : Heap 𝓤) (A : Atoms 𝓤) (W : Given
   fm = fmOf 𝓤 H (W .laws) 𝓣
 
   module _ (κ₀ κ₁ κ₂ : Lft) (q₀ q₁ q₂ : Share) (asked : Asked) (x₁ : RefT (List Row)) (x₂ : RefT Run) (x₃ : RefT (List ℕ))
-      (is-asked : Is D asked (asked-val asked ∷ [])) (room-rows : Room R (length (x₁ .now))) (room-out : Room u8 (length (x₃ .now))) where
+      (is-asked : Known asking asked) (room-rows : Room R (length (x₁ .now))) (room-out : Room u8 (length (x₃ .now))) where
     abbrev ys : List Row
     ys = x₁ .now
 
@@ -43,10 +42,10 @@ module _ {M : Type 1} (𝓤 : URA M) (H : Heap 𝓤) (A : Atoms 𝓤) (W : Given
 
     -- what is passed
     abbrev passed : List Val
-    passed = asked-val asked ∷ sliceVal (x₁ .ptr) (length ys) ∷ vptr (x₂ .ptr .0) (x₂ .ptr .1) ∷ sliceVal (x₃ .ptr) (length (x₃ .now)) ∷ []
+    passed = asking .val asked ∷ sliceVal (x₁ .ptr) (length ys) ∷ vptr (x₂ .ptr .0) (x₂ .ptr .1) ∷ sliceVal (x₃ .ptr) (length (x₃ .now)) ∷ []
 
     abbrev y : walkOf 𝓤 H A this.ended stayed cl .Ghost
-    y = (((κ₀, (κ₁, (κ₂, tt))), (q₀, (q₁, (q₂, tt))), tt, (asked, (x₁, (x₂, (x₃, tt)))), (asked-val asked ∷ [], (slice-vals x₁, (ptr-vals x₂, (slice-vals x₃, tt))))), tt)
+    y = (((κ₀, (κ₁, (κ₂, tt))), (q₀, (q₁, (q₂, tt))), tt, (asked, (x₁, (x₂, (x₃, tt)))), (asking .val asked ∷ [], (slice-vals x₁, (ptr-vals x₂, (slice-vals x₃, tt))))), tt)
 
     abbrev Post : Val → SProp 𝓤
     Post = walkOf 𝓤 H A this.ended stayed cl .post y
@@ -73,7 +72,7 @@ module _ {M : Type 1} (𝓤 : URA M) (H : Heap 𝓤) (A : Atoms 𝓤) (W : Given
         qed W (Left zs) ∵ suffices ! _ (ends-at 𝓤 H A this.ended stayed cl W y w r (tt, (tt, (tt, (zs, tt)))) (tt, (tt, (tt, (len, tt))))) $ says ! traces $
         nothing ! $ move ! (3 ∷ 0 ∷ []) $ join ! $ move ! (2 ∷ 0 ∷ []) $ join ! $ move ! (1 ∷ 0 ∷ []) $ join ! $ frame ! $
         nothing ! $ move ! (1 ∷ 0 ∷ []) $ fjoin ! $ nothing ! $ fjoin ! $ nothing ! $ fjoin ! $ nothing ! $ fjoin ! $ frame ! $
-        own-tracing ! r is-r $ done !
+        makes-of ! traced r _ is-r $ done !
 
     -- ---- the walk, in a lemma for each stage: antt takes at most 50,000,000 steps a declaration
     module _ (l : Blocks locals) where
@@ -92,14 +91,14 @@ module _ {M : Type 1} (𝓤 : URA M) (H : Heap 𝓤) (A : Atoms 𝓤) (W : Given
       abbrev Done : Share → ℕ → Columns → Val → List ℕ → List (Item 𝓤)
       Done q n c w zs =
           in-rows c b (has-each En (w ∷ passed) (has-each (past 9 En) (vint w64 (length ys) ∷ vint w64 n ∷ []) (room-each (past 11 En)
-          (‵ (cellAt q (S .mir) (run-val h ∷ []) (x₂ .ptr .0) (x₂ .ptr .1)) ∷ ‵ (fobor κ₁ q₁ (partAt S q h (x₂ .ptr .0) (x₂ .ptr .1))) ∷ ‵ (flft κ₀ q₀) ∷ ‵ (flft κ₂ q₂) ∷ ‵ (finally u8 (x₃ .name) zs) ∷ dies-each En []))))
+          (‵ (cellAt q (S .mir) (recorded .val h ∷ []) (x₂ .ptr .0) (x₂ .ptr .1)) ∷ ‵ (fobor κ₁ q₁ (partAt S q h (x₂ .ptr .0) (x₂ .ptr .1))) ∷ ‵ (flft κ₀ q₀) ∷ ‵ (flft κ₂ q₂) ∷ ‵ (finally u8 (x₃ .name) zs) ∷ dies-each En []))))
 
-      from-end : (q : Share) → Is S h (run-val h ∷ []) → (n : ℕ) (c : Columns) (longs : Long c) (r : Tracing) (w : Val) → Is E r (w ∷ []) → (zs : List ℕ) → length zs ≡ length (x₃ .now)
+      from-end : (q : Share) → Known recorded h → (n : ℕ) (c : Columns) (longs : Long c) (r : Tracing) (w : Val) → Is E r (w ∷ []) → (zs : List ℕ) → length zs ≡ length (x₃ .now)
           → TracesAsked asked (lent ys h) (x₃ .now) (tracing r) zs → Runs-from (Done q n c w zs) code.Mir.t-29
       from-end q is-h n c longs r w is-r zs len traces =
           qed W (Done q n c w zs) ∵ exec ! (𝓣 .C) (𝓣 .Λ) En code.Mir.t-29 (atRet En Post) $
           -- the record is shut, and the columns are room again
-          own-run ! h is-h $ move ! (33 ∷ 0 ∷ 34 ∷ []) $ shuts ! tt S q h (run-val h ∷ []) (x₂ .ptr .0) (x₂ .ptr .1) $ move ! (1 ∷ 2 ∷ 3 ∷ 4 ∷ []) $
+          makes-of ! recorded h _ is-h $ move ! (33 ∷ 0 ∷ 34 ∷ []) $ shuts ! tt S q h (recorded .val h ∷ []) (x₂ .ptr .0) (x₂ .ptr .1) $ move ! (1 ∷ 2 ∷ 3 ∷ 4 ∷ []) $
           four-rooms ! c b longs $
           -- every local is freed
           returns ! (look ! 5 refl) $ forget ! 5 refl $ forget ! 6 refl $ forget ! 7 refl $ forget ! 8 refl $ forget ! 9 refl $ forget ! 10 refl $ forget ! 11 refl $
@@ -109,26 +108,26 @@ module _ {M : Type 1} (𝓤 : URA M) (H : Heap 𝓤) (A : Atoms 𝓤) (W : Given
       abbrev At : Share → ℕ → Columns → List (Item 𝓤)
       At q n c =
           in-rows c b (room-each (upto 1 En) (has-each (past 1 En) passed (has-each (past 9 En) (vint w64 (length ys) ∷ vint w64 n ∷ []) (room-each (past 11 En) (‵ (MutSlice (named 2) κ₂ u8 .own x₃ (slice-vals x₃)) ∷
-          ‵ (cellAt q (S .mir) (run-val h ∷ []) (x₂ .ptr .0) (x₂ .ptr .1)) ∷ ‵ (fobor κ₁ q₁ (partAt S q h (x₂ .ptr .0) (x₂ .ptr .1))) ∷ ‵ (flft κ₀ q₀) ∷ ‵ (flft κ₂ q₂) ∷ dies-each En [])))))
+          ‵ (cellAt q (S .mir) (recorded .val h ∷ []) (x₂ .ptr .0) (x₂ .ptr .1)) ∷ ‵ (fobor κ₁ q₁ (partAt S q h (x₂ .ptr .0) (x₂ .ptr .1))) ∷ ‵ (flft κ₀ q₀) ∷ ‵ (flft κ₂ q₂) ∷ dies-each En [])))))
 
-      from-core : (q : Share) → Is S h (run-val h ∷ []) → (n : ℕ) → Within n → (c : Columns) (longs : Long c) → Loaded n c → Runs-from (At q n c) code.Mir.t-17
+      from-core : (q : Share) → Known recorded h → (n : ℕ) → Within n → (c : Columns) (longs : Long c) → Loaded n c → Runs-from (At q n c) code.Mir.t-17
       from-core q is-h n within c longs filled =
           qed W (At q n c) ∵ exec ! (𝓣 .C) (𝓣 .Λ) En code.Mir.t-17 (atRet En Post) $
           -- the columns, as slices; a copy of the record; and the buffer
           slices ! 21 (sym (longs .0)) refl refl refl (of-column imm w8 (b .0)) (here !) (here !) (here !) $ slices ! 23 (sym (longs .1)) refl refl refl (of-column imm w64 (b .1)) (here !) (here !) (here !) $
           slices ! 25 (sym (longs .2)) refl refl refl (of-column imm w16 (b .2)) (here !) (here !) (here !) $ slices ! 27 (sym (longs .3)) refl refl refl (of-column imm w16 (b .3)) (here !) (here !) (here !) $
-          assigns ! (of-opd ! (load ! (from ! (hop ! (look ! 7 refl) (stop !))) (look-raw ! 33 refl))) (from ! (stop !)) (init ! 29 refl (typed-run 𝓤 H A W h _ is-h)) $
+          assigns ! (of-opd ! (load ! (from ! (hop ! (look ! 7 refl) (stop !))) (look-raw ! 33 refl))) (from ! (stop !)) (init ! 29 refl (recorded .typed 𝓤 H A W h _ is-h)) $
           relends ! 30 8 refl refl refl refl refl refl (tt, tt) (tt, (tt, (record { fits = room-out .0 }, tt))) (here !) (here !) $
           -- the columns are lent, and the buffer for good
-          nothing ! $ move ! (33 ∷ 0 ∷ []) $ fjoin ! $ hands-run ! h is-h $ nothing ! $ move ! (37 ∷ 0 ∷ []) $ join ! $
+          nothing ! $ move ! (33 ∷ 0 ∷ []) $ fjoin ! $ hands ! recorded h is-h $ nothing ! $ move ! (37 ∷ 0 ∷ []) $ join ! $
           share-four ! tt 0 c b longs (λ α γ. move ! (1 ∷ []) $
-          hands-uint ! w64 (length ys) (room-rows .0) $ hands-asked ! asked is-asked $
+          hands-uint ! w64 (length ys) (room-rows .0) $ hands ! asking asked is-asked $
           move ! (1 ∷ 0 ∷ []) $
           -- the call
-          calls-on ! fm core.ended (core.clauses 𝓤 H A at-mem run) known-core (lives α (κ₂, tt), wholes (q₂, tt), tt, (asked, (length ys, refs c b γ (h, (x₃, tt)))), (asked-val asked ∷ [], (vint w64 (length ys) ∷ [], vals-of (refs c b γ (tt {0})) (run-val h ∷ [], (slice-vals x₃, tt))))) tt
+          calls-on ! fm core.ended (core.clauses 𝓤 H A at-mem run) known-core (lives α (κ₂, tt), wholes (q₂, tt), tt, (asked, (length ys, refs c b γ (h, (x₃, tt)))), (asking .val asked ∷ [], (vint w64 (length ys) ∷ [], vals-of (refs c b γ (tt {0})) (recorded .val h ∷ [], (slice-vals x₃, tt))))) tt
           (id⊢ 𝓤 _)
           (and-then ! (copied ! 6 refl) (and-then ! (copied ! 10 refl) (and-then ! (copied ! 23 refl) (and-then ! (copied ! 25 refl) (and-then ! (copied ! 27 refl) (and-then ! (copied ! 29 refl) (and-then ! (copied ! 30 refl) (and-then ! (copied ! 32 refl) (no-more !)))))))))
-          (λ r zs. Told c r (zs .1 .1 .1 .1 .1 .1 .1 .0)) (λ r zs. id⊢ 𝓤 _) 4 refl (here !) (as-tracing 𝓤 H A W) (λ w r zs e is-r.
+          (λ r zs. Told c r (zs .1 .1 .1 .1 .1 .1 .1 .0)) (λ r zs. id⊢ 𝓤 _) 4 refl (here !) (as-it-is 𝓤 H A W traced) (λ w r zs e is-r.
           -- what it says of the buffer, and the columns are back
           fsplit ! $ drop ! $ fsplit ! $ drop ! $ fsplit ! $ drop ! $ fsplit ! $ drop ! $ fsplit ! $ drop ! $ fsplit ! $ drop ! $ fsplit ! $ drop ! $ fsplit ! $ fsplit ! $ move ! (1 ∷ []) $ feqL ! (λ len.
           move ! (1 ∷ []) $ drop ! $ move ! (1 ∷ 2 ∷ 3 ∷ 4 ∷ 5 ∷ []) $ unshare-four ! tt c b α $ move ! (4 ∷ []) $ split ! $ forget ! 24 refl $ forget ! 25 refl $ forget ! 26 refl $ forget ! 27 refl $
@@ -138,7 +137,7 @@ module _ {M : Type 1} (𝓤 : URA M) (H : Heap 𝓤) (A : Atoms 𝓤) (W : Given
       abbrev rows-lent : Item 𝓤
       rows-lent = ‵ (ShrSlice (named 0) κ₀ R .own x₁ (slice-vals x₁))
 
-      from-load : (q : Share) → Is S h (run-val h ∷ []) → (n : ℕ) → Within n → Runs-from (rows-lent ∷ At q n empty) code.Mir.t-8
+      from-load : (q : Share) → Known recorded h → (n : ℕ) → Within n → Runs-from (rows-lent ∷ At q n empty) code.Mir.t-8
       from-load q is-h n within =
           qed W (rows-lent ∷ At q n empty) ∵ exec ! (𝓣 .C) (𝓣 .Λ) En code.Mir.t-8 (atRet En Post) $
           -- the columns, as slices
@@ -187,7 +186,7 @@ module _ {M : Type 1} (𝓤 : URA M) (H : Heap 𝓤) (A : Atoms 𝓤) (W : Given
         split ! $ move ! (1 ∷ []) $ split ! $ move ! (1 ∷ []) $ split ! $ move ! (4 ∷ []) $ fsplit ! $ drop ! $ fsplit ! $ move ! (1 ∷ []) $ fsplit ! $ fsplit3 ! $ drop ! $ drop ! $ move ! (1 ∷ []) $ fsplit ! $
         keep ! (3 ∷ 0 ∷ 2 ∷ 7 ∷ 6 ∷ 4 ∷ []) $
         -- the locals
-        enter ! (𝓣 .C) (𝓣 .Λ) code.function _ _ $ allocs-each ! locals _ (λ l. params1 ! $ pass1 ! (init ! 60 refl (typed-asked 𝓤 H A W asked _ is-asked)) $ pass1 ! (init ! 58 refl (tt, (tt, (record { fits = room-rows .0 }, tt)))) $
+        enter ! (𝓣 .C) (𝓣 .Λ) code.function _ _ $ allocs-each ! locals _ (λ l. params1 ! $ pass1 ! (init ! 60 refl (asking .typed 𝓤 H A W asked _ is-asked)) $ pass1 ! (init ! 58 refl (tt, (tt, (record { fits = room-rows .0 }, tt)))) $
         pass1 ! (init ! 56 refl (tt, tt)) $ pass1 ! (init ! 54 refl (tt, (tt, (record { fits = room-out .0 }, tt)))) $ pass0 ! $ keep ! (downs 0 32 (span 64 6 (downs 1 32 []))) $ by ! (from-start l))
 
   goes : AllGo 𝓤 H A W 3 (this.signature .params) (this.ended .kept) stayed
@@ -197,8 +196,8 @@ module _ {M : Type 1} (𝓤 : URA M) (H : Heap 𝓤) (A : Atoms 𝓤) (W : Given
   )
 
   this-meets : Meets 𝓤 H A this.signature (WpFn 𝓤 H (𝓣 .C) (𝓣 .Λ) code.function) (this.spec 𝓤 H A at-mem run)
-  this-meets = meets-by 𝓤 H A W 𝓣 this.ended stayed cl code.function goes (λ κs. ((λ x. asked-val x ∷ []), (slice-vals, (ptr-vals, (slice-vals, tt)))))
-      (λ κs. (asked-tells, (shr-slice-tells (named 0) (κs .0) R, (shr-tells (named 1) (κs .1 .0) S, (mut-slice-tells (named 2) (κs .1 .1 .0) u8, tt)))))
+  this-meets = meets-by 𝓤 H A W 𝓣 this.ended stayed cl code.function goes (λ κs. ((λ x. asking .val x ∷ []), (slice-vals, (ptr-vals, (slice-vals, tt)))))
+      (λ κs. (asking .tells, (shr-slice-tells (named 0) (κs .0) R, (shr-tells (named 1) (κs .1 .0) S, (mut-slice-tells (named 2) (κs .1 .1 .0) u8, tt)))))
       (λ κs qs bounds a g are. (walk (κs .0) (κs .1 .0) (κs .1 .1 .0) (qs .0) (qs .1 .0) (qs .1 .1 .0) (a .0) (a .1 .0) (a .1 .1 .0) (a .1 .1 .1 .0) (are .0) (are .1 .0 .0 .1) (are .1 .1 .1 .0 .0 .1)))
 
 pub trace-asked-spec : {M : Type 1} → this.Statement.statement M

@@ -1,7 +1,7 @@
 -- `call_own`, a walk of its MIR by hand: one call. The table and the record are copied to memory, the first rows of the one and the other
 -- are lent to `call` for lifetimes made here, and what is back goes into the result.
-use Rattle.own_table.proofs.Kit.{refl, sym, ap, subst, ℕ, _<_, _≤_, _^_, List, [], _∷_, Holds, take, URA, fullShare, named, erased, mut, w64, tyArray, tyRef, spell, Val, WT, hasTy, vint, SProp, ent, id⊢, GName, ftrue, fat, flft, Memory, Routine, Heap, WpFn, Tables, Atoms, Fun, fact, givenOf, tables, tablesOf, Given, ‵, raw, _⊛_, ⋆, some, later, _$_, _∵_, !, qed, by, move, keep, drops, use1, split, join, pick, rewrite, fsplit, fjoin, feqL, suffices, frame, await, done, look, init, forget, stop, from, load, addr, of-opd, and-then, no-more, assigns, land, returns, enter, alloc1, alloc0, params1, pass1, pass0, free1, free0, agg, lft-new, lft-end, fmOf, WpFn-mono, owns, Is, shows, pointee, uint-vals, uint-tells, usize, ArrayOf, ptr-vals, sliceTy, sliceVal, slice-vals, plain, peeks, heard, nothing, only, yes, onEntry, Meets, tripleOf, Contract, Triple, calls-at, Lasts, ensured, lasts, entered, cited, says, needs, Stays, stay-dropped, walkOf, AllGo, goes-dropped, ends-at, walked, walk-meets, Row, Run, Asked, lent, Answered, Work, answered, Works, Own}
-use Rattle.own_table.proofs.Values.{Known, known, typed-as, makes-of, D, R, S, J, B, O, asking, recorded, working, answering, Table, tabled, owning, own, is-own}
+use Rattle.own_table.proofs.Kit.{refl, sym, ap, subst, ℕ, _<_, _≤_, _^_, List, [], _∷_, Holds, take, URA, fullShare, named, erased, mut, w64, tyArray, tyRef, spell, Val, WT, hasTy, vint, SProp, ent, id⊢, GName, ftrue, fat, flft, Memory, Routine, Heap, WpFn, Tables, Atoms, Fun, fact, givenOf, tables, tablesOf, Given, ‵, raw, _⊛_, ⋆, some, later, _$_, _∵_, !, qed, by, move, keep, drops, use1, split, join, pick, rewrite, fsplit, fjoin, feqL, suffices, frame, await, done, look, init, forget, stop, from, load, addr, of-opd, and-then, no-more, assigns, land, returns, enter, alloc1, alloc0, params1, pass1, pass0, free1, free0, agg, lft-new, lft-end, fmOf, WpFn-mono, owns, Is, shows, pointee, uint-vals, uint-tells, usize, ArrayOf, ptr-vals, sliceTy, sliceVal, slice-vals, plain, peeks, heard, nothing, only, yes, onEntry, Meets, tripleOf, Contract, Triple, calls-at, Lasts, ensured, lasts, entered, cited, says, needs, Stays, stay-dropped, walkOf, AllGo, goes-dropped, ends-at, walked, walk-meets, Row, Run, Asked, lent, Answered, Work, answered, Works, Own, Known, known, typed-as, makes-of, hands, D, R, S, J, B, asking, recorded, working, answering}
+use Rattle.own_table.proofs.Values.{O, Table, tabled, owning, own, is-own}
 use Rattle.own_table.proofs.Lending.{N, front-long, lend-front, front-back, front-room, at-rows, at-run, lend-record, record-back}
 use Rattle.own_table.specs.Tables.{CallsOwn}
 use Rattle.compare.proofs.call as call′
@@ -46,7 +46,7 @@ module _ {M : Type 1} (𝓤 : URA M) (H : Heap 𝓤) (A : Atoms 𝓤) (W : Given
     Left r zs rec = Works work asked (lent (take n xs) h) (answered r) (lent zs rec)
 
     typed-table : (ts : List Row) → Known (tabled N) ts → Holds (hasTy (spell Mir.table (tyArray (pointee (R .written)) N)) (tabled N .val ts)) × WT (tabled N .val ts)
-    typed-table ts is-ts = typed-as (tabled N) 𝓤 H A W (spell Mir.table (tyArray (pointee (R .written)) N)) refl ts is-ts
+    typed-table ts is-ts = typed-as 𝓤 H A W (tabled N) (spell Mir.table (tyArray (pointee (R .written)) N)) refl ts is-ts
 
     walk : ent 𝓤 (onEntry 𝓤 H A this.signature tt tt (y .0 .3) (y .0 .4)) (WpFn 𝓤 H (𝓣 .C) (𝓣 .Λ) code.function (asking .val asked ∷ tabled N .val xs ∷ vint w64 n ∷ recorded .val h ∷ working .val work ∷ []) Post)
     walk =
@@ -64,8 +64,8 @@ module _ {M : Type 1} (𝓤 : URA M) (H : Heap 𝓤) (A : Atoms 𝓤) (W : Given
         assigns ! (addr ! (from ! (stop !))) (from ! (stop !)) (init ! 4 refl (tt, tt)) $
         -- the first n rows and the record are lent for two lifetimes made here
         lft-new ! tt (λ α₀. lft-new ! tt (λ α₁. move ! (16 ∷ []) $ lend-front N ! tt (named 0) (α₀ ∷ []) n xs l₆ within is-xs (front-room n xs within is-xs) (λ γ₀. move ! (17 ∷ []) $
-        lend-record ! tt (named 1) (α₁ ∷ []) h l₇ is-h (λ γ₁. nothing ! $ nothing ! $ makes-of ! working work _ is-work $ fjoin ! $ move ! (2 ∷ 0 ∷ []) $ fjoin ! $ move ! (3 ∷ 0 ∷ []) $ fjoin ! $
-        makes-of ! asking asked _ is-asked $ fjoin ! $ nothing ! $ move ! (6 ∷ 0 ∷ []) $ join ! $ move ! (6 ∷ 0 ∷ []) $ join ! $ join ! $ join ! $
+        lend-record ! tt (named 1) (α₁ ∷ []) h l₇ is-h (λ γ₁. nothing ! $ nothing ! $ hands ! working work is-work $ move ! (2 ∷ 0 ∷ []) $ fjoin ! $ move ! (3 ∷ 0 ∷ []) $ fjoin ! $
+        hands ! asking asked is-asked $ nothing ! $ move ! (6 ∷ 0 ∷ []) $ join ! $ move ! (6 ∷ 0 ∷ []) $ join ! $ join ! $ join ! $
         -- the call
         use1 W (raw (Call .pre (handed α₀ α₁ l₆ l₇ γ₀ γ₁))) (id⊢ 𝓤 _) $ calls-at ! (fmOf 𝓤 H (W .laws) 𝓣) Call known-call (handed α₀ α₁ l₆ l₇ γ₀ γ₁)
         (and-then ! (load ! (from ! (stop !)) (look ! 26 refl)) (and-then ! (load ! (from ! (stop !)) (look ! 10 refl)) (and-then ! (load ! (from ! (stop !)) (look ! 8 refl)) (and-then ! (load ! (from ! (stop !)) (look ! 18 refl)) (no-more !))))) (λ w.
@@ -80,7 +80,7 @@ module _ {M : Type 1} (𝓤 : URA M) (H : Heap 𝓤) (A : Atoms 𝓤) (W : Given
         -- what is returned, and every local dies
         assigns ! (of-opd ! (load ! (from ! (stop !)) (look ! 2 refl))) (from ! (stop !)) (init ! 7 refl (typed-table ts is-ts)) $
         assigns ! (of-opd ! (load ! (from ! (stop !)) (look ! 0 refl))) (from ! (stop !)) (init ! 5 refl (recorded .typed 𝓤 H A W (ws .1 .1 .0) _ is-rec)) $
-        assigns ! (agg ! (and-then ! (load ! (from ! (stop !)) (look ! 7 refl)) (and-then ! (load ! (from ! (stop !)) (look ! 5 refl)) (and-then ! (load ! (from ! (stop !)) (look ! 15 refl)) (no-more !))))) (from ! (stop !)) (init ! 29 refl (typed-as owning 𝓤 H A W (spell Mir.table (pointee (O .written))) refl (own ts (ws .1 .1 .0) r) (is-own ts is-ts (ws .1 .1 .0) is-rec r (known answering r w is-w)))) $
+        assigns ! (agg ! (and-then ! (load ! (from ! (stop !)) (look ! 7 refl)) (and-then ! (load ! (from ! (stop !)) (look ! 5 refl)) (and-then ! (load ! (from ! (stop !)) (look ! 15 refl)) (no-more !))))) (from ! (stop !)) (init ! 29 refl (typed-as 𝓤 H A W owning (spell Mir.table (pointee (O .written))) refl (own ts (ws .1 .1 .0) r) (is-own ts is-ts (ws .1 .1 .0) is-rec r (known answering r w is-w)))) $
         returns ! (look ! 29 refl) $ forget ! 29 refl $ forget ! 27 refl $ forget ! 25 refl $ forget ! 23 refl $ forget ! 21 refl $ forget ! 19 refl $ forget ! 2 refl $ forget ! 0 refl $ forget ! 15 refl $ forget ! 13 refl $
         forget ! 11 refl $ forget ! 9 refl $ forget ! 7 refl $ forget ! 5 refl $ move ! (29 ∷ 30 ∷ []) $ free1 ! $ move ! (27 ∷ 28 ∷ []) $ free1 ! $ move ! (25 ∷ 26 ∷ []) $ free1 ! $ move ! (23 ∷ 24 ∷ []) $ free1 ! $
         move ! (21 ∷ 22 ∷ []) $ free1 ! $ move ! (19 ∷ 20 ∷ []) $ free1 ! $ move ! (2 ∷ 18 ∷ []) $ free1 ! $ move ! (0 ∷ 16 ∷ []) $ free1 ! $ move ! (13 ∷ 14 ∷ []) $ free1 ! $ move ! (11 ∷ 12 ∷ []) $ free1 ! $

@@ -1,7 +1,7 @@
 -- `trace_own`, a walk of its MIR by hand: one call. The table and the record are copied to memory, the first rows of the one and the other
 -- are shared with `trace_asked` for lifetimes made here, and the buffer is handed on for good. The answer is returned as it was given.
-use Rattle.own_table.proofs.Kit.{_≡_, refl, sym, ℕ, _<_, _≤_, _^_, List, [], _∷_, Holds, length, take, URA, fullShare, named, erased, imm, w64, tyArray, tyRef, spell, Val, WT, hasTy, vint, SProp, ent, id⊢, Lft, GName, Share, ftrue, fat, flft, Memory, Routine, Heap, WpFn, Tables, Atoms, Fun, fact, givenOf, tables, tablesOf, Given, Item, ‵, raw, _⊛_, ⋆, some, later, _$_, _∵_, !, qed, by, move, keep, drops, use1, split, join, pick, rewrite, fsplit, fjoin, feqL, suffices, frame, await, done, look, init, forget, stop, hop, fld, from, load, addr, of-opd, and-then, no-more, assigns, land, returns, enter, alloc1, alloc0, params1, pass1, pass0, free1, free0, agg, whole, sub, look-in, lft-new, lft-end, fmOf, WpFn-mono, owns, Is, shows, pointee, uint-vals, uint-tells, u8, usize, ArrayOf, RefT, ptr-vals, sliceTy, sliceVal, MutSlice, Room, slice-vals, mut-slice-tells, finally, plain, peeks, heard, nothing, yes, onEntry, Meets, tripleOf, Contract, Triple, calls-at, Lasts, ensured, lasts, entered, cited, says, needs, Stays, stay-dropped, gave-slice, walkOf, AllGo, goes-dropped, goes-gave-slice, ends-at, walked, walk-meets, Row, Run, Asked, Tracing, tracing, lent, TracesAsked}
-use Rattle.own_table.proofs.Values.{Known, typed-as, makes-of, D, R, S, E, asking, recorded, traced, Table, tabled, own}
+use Rattle.own_table.proofs.Kit.{_≡_, refl, sym, ℕ, _<_, _≤_, _^_, List, [], _∷_, Holds, length, take, URA, fullShare, named, erased, imm, w64, tyArray, tyRef, spell, Val, WT, hasTy, vint, SProp, ent, id⊢, Lft, GName, Share, ftrue, fat, flft, Memory, Routine, Heap, WpFn, Tables, Atoms, Fun, fact, givenOf, tables, tablesOf, Given, Item, ‵, raw, _⊛_, ⋆, some, later, _$_, _∵_, !, qed, by, move, keep, drops, use1, split, join, pick, rewrite, fsplit, fjoin, feqL, suffices, frame, await, done, look, init, forget, stop, hop, fld, from, load, addr, of-opd, and-then, no-more, assigns, land, returns, enter, alloc1, alloc0, params1, pass1, pass0, free1, free0, agg, whole, sub, look-in, lft-new, lft-end, fmOf, WpFn-mono, owns, Is, shows, pointee, uint-vals, uint-tells, u8, usize, ArrayOf, RefT, ptr-vals, sliceTy, sliceVal, MutSlice, Room, slice-vals, mut-slice-tells, finally, plain, peeks, heard, nothing, yes, onEntry, Meets, tripleOf, Contract, Triple, calls-at, Lasts, ensured, lasts, entered, cited, says, needs, Stays, stay-dropped, gave-slice, walkOf, AllGo, goes-dropped, goes-gave-slice, ends-at, walked, walk-meets, Row, Run, Asked, Tracing, tracing, lent, TracesAsked, Known, typed-as, makes-of, hands, D, R, S, E, asking, recorded, traced}
+use Rattle.own_table.proofs.Values.{Table, tabled, own}
 use Rattle.own_table.proofs.Lending.{N, front-long, share-front, unshare-front, front-room, at-rows, at-run, share-record, unshare-record}
 use Rattle.compare.proofs.trace_asked as trace′
 use Rattle.compare.proofs.trace_asked.Symbol as trace-def
@@ -49,7 +49,7 @@ module _ {M : Type 1} (𝓤 : URA M) (H : Heap 𝓤) (A : Atoms 𝓤) (W : Given
         nothing ! $ move ! (1 ∷ 0 ∷ []) $ join ! $ frame ! $ nothing ! $ move ! (1 ∷ 0 ∷ []) $ fjoin ! $ nothing ! $ fjoin ! $ nothing ! $ fjoin ! $ nothing ! $ fjoin ! $ nothing ! $ fjoin ! $ frame ! $ makes-of ! traced r _ is $ done !
 
     typed-table : (ts : List Row) → Known (tabled N) ts → Holds (hasTy (spell Mir.table (tyArray (pointee (R .written)) N)) (tabled N .val ts)) × WT (tabled N .val ts)
-    typed-table ts is-ts = typed-as (tabled N) 𝓤 H A W (spell Mir.table (tyArray (pointee (R .written)) N)) refl ts is-ts
+    typed-table ts is-ts = typed-as 𝓤 H A W (tabled N) (spell Mir.table (tyArray (pointee (R .written)) N)) refl ts is-ts
 
     walk : ent 𝓤 (onEntry 𝓤 H A this.signature (κ, tt) (q, tt) (y .0 .3) (y .0 .4)) (WpFn 𝓤 H (𝓣 .C) (𝓣 .Λ) code.function (asking .val asked ∷ tabled N .val xs ∷ vint w64 n ∷ recorded .val h ∷ sliceVal (x₅ .ptr) (length (x₅ .now)) ∷ []) Post)
     walk =
@@ -69,7 +69,7 @@ module _ {M : Type 1} (𝓤 : URA M) (H : Heap 𝓤) (A : Atoms 𝓤) (W : Given
         assigns ! (agg ! (and-then ! (load ! (from ! (stop !)) (look ! 2 refl)) (and-then ! (load ! (from ! (fld ! refl (stop !))) (look-in ! 14 (sub ! 1 refl (whole !)))) (no-more !)))) (from ! (stop !)) (init ! 0 refl (tt, (tt, (record { fits = room .0 }, tt)))) $
         -- the first n rows and the record are shared for two lifetimes made here, and the buffer is handed on
         lft-new ! tt (λ α₀. lft-new ! tt (λ α₁. move ! (14 ∷ []) $ share-front N ! tt (named 0) (α₀ ∷ []) n xs l₆ within is-xs (front-room n xs within is-xs) (λ γ₀. move ! (15 ∷ []) $
-        share-record ! tt (named 1) (α₁ ∷ []) h l₇ is-h (λ γ₁. nothing ! $ nothing ! $ move ! (33 ∷ 0 ∷ []) $ fjoin ! $ move ! (2 ∷ 0 ∷ []) $ fjoin ! $ move ! (3 ∷ 0 ∷ []) $ fjoin ! $ makes-of ! asking asked _ is-asked $ fjoin ! $
+        share-record ! tt (named 1) (α₁ ∷ []) h l₇ is-h (λ γ₁. nothing ! $ nothing ! $ move ! (33 ∷ 0 ∷ []) $ fjoin ! $ move ! (2 ∷ 0 ∷ []) $ fjoin ! $ move ! (3 ∷ 0 ∷ []) $ fjoin ! $ hands ! asking asked is-asked $
         nothing ! $ move ! (32 ∷ 0 ∷ []) $ join ! $ move ! (6 ∷ 0 ∷ []) $ join ! $ move ! (6 ∷ 0 ∷ []) $ join ! $ join ! $ join ! $
         -- the call
         use1 W (raw (Trace .pre (handed α₀ α₁ l₆ l₇ γ₀ γ₁))) (id⊢ 𝓤 _) $ calls-at ! (fmOf 𝓤 H (W .laws) 𝓣) Trace known-trace (handed α₀ α₁ l₆ l₇ γ₀ γ₁)

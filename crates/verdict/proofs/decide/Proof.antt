@@ -2,8 +2,7 @@
 use borrow.Author.Needs.{needs}
 use Rattle.goals.specs.Refusals.{Given, given}
 use Rattle.columns.specs.Calls.{Columns, columns}
-use Rattle.columns.specs.Tables.{StartsOf}
-use Rattle.columns.proofs.Tables.{starts-of, runs-of}
+use Rattle.columns.proofs.Tables.{StartsOf, starts-of, runs-of}
 use Rattle.verdict.proofs.Deciding.{decides-refused, decides-ran}
 use Rattle.verdict.proofs.decide.Statement.{statement}
 use Rattle.verdict.proofs.decide.Tie as tie

@@ -6,8 +6,7 @@ use lib.Seq.{length-take-le}
 use Rattle.goals.specs.Refusals.{Given, given}
 use Rattle.columns.specs.declared.Tracing.{Tracing}
 use Rattle.columns.specs.Calls.{columns, tracing}
-use Rattle.columns.specs.Tables.{TracesOf}
-use Rattle.columns.proofs.Tables.{traces-of}
+use Rattle.columns.proofs.Tables.{TracesOf, traces-of}
 use Rattle.verdict.specs.Lines.{traceLine}
 use Rattle.verdict.proofs.Laws.{puts-as}
 use Rattle.verdict.proofs.Printing.{Lettered, trace-lettered, never-refused}
