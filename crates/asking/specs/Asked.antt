@@ -64,7 +64,7 @@ askedRules a =
 unfoldable pub whyNot : Asked → SideRefusal
 whyNot a = named (first (askedRules a))
 
--- of what `ask` made, this is its own `why`: 24 never applies there, and 14 only where `ask` has said so
+-- of what `ask` made, this is its own `why`: neither 24 nor 14 applies to the sides that it made
 abbrev pub Judged : Type 0
 Judged = (g : Given) → whyNot (askedOf g) ≡ askedOf g .why
 

@@ -37,7 +37,8 @@ use Rattle.compare.proofs.Core.{told, stored, core-starts, core-runs, c
 use Rattle.compare.specs.declared.Next.{Next}
 use Rattle.compare.specs.declared.Work.{Work}
 use Rattle.compare.specs.declared.Work.the-variants as work-variants
-use Rattle.compare.specs.Calls.{answered, nextOf, toLoad, workRefusal, workAfter, Works, WorksIn, WorksOn, TracesAsked}
+use Rattle.compare.specs.Calls.{answered, workRefusal, workAfter, Works, TracesAsked}
+use Rattle.compare.specs.Core.{nextOf, toLoad, WorksIn, WorksOn}
 use Rattle.compare.proofs.Laws.{loaded-length}
 
 -- ---- the core's answer and what it stores, as they are told and stored here

@@ -46,7 +46,8 @@ pub use Rattle.columns.specs.Calls.{Columns, rowsIn, put, tracing}
 pub use Rattle.demands.specs.Calls.{lent, Starts, Runs, Traces}
 pub use Rattle.compare.specs.declared.Next.{Next}
 pub use Rattle.compare.specs.declared.Work.{Work}
-pub use Rattle.compare.specs.Calls.{answered, toLoad, Reaches, Works, WorksOn, TracesAsked}
+pub use Rattle.compare.specs.Calls.{answered, Works, TracesAsked}
+pub use Rattle.compare.specs.Core.{toLoad, LongEnough, WorksOn}
 pub use denote.Triple.Clauses.{Clauses}
 pub use Rattle.compare.proofs.Frames.{has-each, room-each, dies-each}
 pub use Rattle.compare.proofs.Lent.{lend-row, row-back, share-row, unshare-row, fills}

@@ -17,7 +17,7 @@ use denote.Triple.Statement.{Contract}
 use Rattle.goals.specs.declared.Row.{Row}
 use Rattle.columns.specs.Calls.{Columns, columns}
 use Rattle.columns.proofs.trace_on as trace-on′
-use Rattle.compare.specs.Calls.{Reaches}
+use Rattle.compare.specs.Core.{LongEnough}
 use Rattle.compare.proofs.Calling.{Loadable}
 use Rattle.compare.proofs.Lending.{Long}
 use Rattle.compare.proofs.used_within as used′
@@ -43,7 +43,7 @@ empty = columns zeros zeros zeros zeros
 pub empty-long : Long empty
 empty-long = (zeros-long, zeros-long, zeros-long, zeros-long)
 
-pub loadable-reaches : (n : ℕ) (rows : List Row) → Loadable n (length rows) → Reaches n rows empty
+pub loadable-reaches : (n : ℕ) (rows : List Row) → Loadable n (length rows) → LongEnough n rows empty
 loadable-reaches n rows u = let z : n ≤ length zeros = omega (arith, u .1, zeros-long) in (u .0, z, z, z, z)
 
 -- ---- the contracts

@@ -1,5 +1,5 @@
--- What the calls on rows answer, what each is to do, and what the calls on columns leave for them.
-use Prim.Native.Nat.{ℕ, _≤_, min}
+-- What the calls on rows answer and leave: on any two sides by value, and what a contract's references stand for.
+use Prim.Native.Nat.{ℕ}
 use mathlib.Core.Path.{_≡_}
 use mathlib.Core.List.{List, [], _∷_}
 use lib.ListN.{length}
@@ -9,19 +9,15 @@ use Rattle.effect.specs.Refusals.{front}
 use Rattle.goals.specs.declared.Row.{Row}
 use Rattle.goals.specs.declared.Run.{Run}
 use Rattle.goals.specs.Run.{State, started, traceOf}
-use Rattle.goals.specs.Refusals.{Given, given, roomOf, Against, against, againstOf, Reply, exit, leaves}
+use Rattle.goals.specs.Refusals.{Given, given, Against, against, againstOf, Reply, exit, leaves}
 use Rattle.asking.specs.declared.Asked.{Asked}
 use Rattle.asking.specs.Asked.{startRefusalOn, runRefusalOn, traceRefusalOn, runAfterOn}
-use Rattle.columns.specs.declared.Called.{Called}
-use Rattle.columns.specs.declared.Called.the-variants as called-variants
-use Rattle.columns.specs.Calls as core
-use Rattle.columns.specs.Calls.{Columns, Slice}
+use Rattle.columns.specs.Calls.{Slice}
 use Rattle.demands.specs.Calls.{Lent, lent, usedIn, holding}
 use Rattle.compare.specs.declared.Answered.{Answered}
 use Rattle.compare.specs.declared.Answered.the-variants as answered-variants
 use Rattle.compare.specs.declared.Work.{Work}
 use Rattle.compare.specs.declared.Work.the-variants as work-variants
-use Rattle.compare.specs.declared.Next.{Next}
 
 -- of a contract's references: both sides' s and nodes, and the rows and the record lent, at entry and at exit
 abbrev pub givenIn : ℕ → Both Slice Slice → ℕ → Both Slice Slice → Given
@@ -32,11 +28,6 @@ lentBefore rows held = lent (rows .entry .now) (held .entry .now)
 
 abbrev pub lentAfter : Both (RefT (List Row)) (RefT (List Row)) → Both (RefT Run) (RefT Run) → Lent
 lentAfter rows held = lent (rows .exit .now) (held .exit .now)
-
--- the table and each column have n rows or more
-abbrev pub Reaches : ℕ → List Row → Columns → Type 0
-Reaches n rows c =
-    (n ≤ length rows) × (n ≤ length (c .places)) × (n ≤ length (c .sets)) × (n ≤ length (c .parents)) × (n ≤ length (c .letters))
 
 -- the number of each case of what start and run answer, with no values: the record tells them
 unfoldable pub answered : Answered → Reply
@@ -62,21 +53,3 @@ TracesAsked a l out reply out′ =
     let word = traceOf (usedIn l) (l .held .settled) in
     exit reply out′
     ≡ leaves (traceRefusalOn a (length (l .rows)) (usedIn l) (l .held) (length out)) (length word ∷ []) (front word out) out
-
--- how many rows a call loads: start none, run those used, and no more than the room has
-unfoldable pub toLoad : Work → ℕ → ℕ → ℕ
-toLoad work-variants.Start used lent = 0
-toLoad (work-variants.Run budget) used lent = min (roomOf lent) used
-
--- what a call on columns answered, for the rows: accepted, its record and as many rows as it uses; refused, the record lent and none
-unfoldable pub nextOf : Called → Run → Next
-nextOf (called-variants.Accepted r) held = record { run = r; rows = r .used; answer = answered-variants.Accepted }
-nextOf (called-variants.Refused why) held = record { run = held; rows = 0; answer = answered-variants.Refused why }
-
--- the calls on columns, for the rows
-unfoldable pub WorksIn : Work → Asked → ℕ → Columns → Run → Called → Columns → Type 0
-WorksIn work-variants.Start a lent c held answer c′ = core.Starts a lent c answer c′
-WorksIn (work-variants.Run budget) a lent c held answer c′ = core.Runs a lent c held budget answer c′
-
-abbrev pub WorksOn : Work → Asked → ℕ → Columns → Run → Next → Columns → Type 0
-WorksOn work a lent c held r c′ = (answer : Called) × WorksIn work a lent c held answer c′ × (r ≡ nextOf answer held)

@@ -18,8 +18,8 @@ ghost use Rattle.effect.specs.Refusals.{front};
 ghost use Rattle.goals.specs.Refusals.{roomOf};
 ghost use Rattle.columns.specs.Calls.{here, before, after, rowsIn, put, tracing};
 ghost use Rattle.demands.specs.Calls.{Starts, Runs, Traces};
-ghost use Rattle.compare.specs.Calls.{answered, givenIn, lentBefore, lentAfter};
-ghost use Rattle.compare.specs.Calls.{toLoad, nextOf, Reaches, Works, WorksOn, TracesAsked};
+ghost use Rattle.compare.specs.Calls.{answered, givenIn, lentBefore, lentAfter, Works, TracesAsked};
+ghost use Rattle.compare.specs.Core.{toLoad, nextOf, LongEnough, WorksOn};
 
 // What start and run answer: accepted, or the refusal. The record tells the rest.
 pub enum Answered {
@@ -110,7 +110,7 @@ fn load(
     parents: &mut [u16],
     letters: &mut [u16],
 )
-    requires { ⌜ Reaches n (now rows) (here places sets parents letters) ⌝ }
+    requires { ⌜ LongEnough n (now rows) (here places sets parents letters) ⌝ }
     ensures { λ _. ⌜ after places sets parents letters ≡ put (take n (now (rows .entry))) (before places sets parents letters) ⌝ }
 {
     let mut i: usize = 0;
@@ -126,7 +126,7 @@ fn load(
 
 // The first n rows of the columns at the front of the rows.
 fn store(rows: &mut [Row], n: usize, places: &[u8], sets: &[u64], parents: &[u16], letters: &[u16])
-    requires { ⌜ Reaches n (now rows) (here places sets parents letters) ⌝ }
+    requires { ⌜ LongEnough n (now rows) (here places sets parents letters) ⌝ }
     ensures { λ _. ⌜ now (rows .exit) ≡ front (rowsIn (before places sets parents letters) n) (now (rows .entry)) ⌝ }
 {
     let mut i: usize = 0;
@@ -141,7 +141,7 @@ fn store(rows: &mut [Row], n: usize, places: &[u8], sets: &[u64], parents: &[u16
     }
 }
 
-// One call on lent rows and a lent record: loads the used rows, makes the call on columns, and stores the rows then used.
+// One call on lent rows and a lent record: loads the rows that it needs, makes the call on columns, and stores the rows then used.
 pub fn call(asked: Asked, rows: &mut [Row], held: &mut Run, work: Work) -> Answered
     ensures { λ r. ⌜ Works work asked (lentBefore rows held) (answered r) (lentAfter rows held) ⌝ }
 {

@@ -1,5 +1,5 @@
--- The calls as a caller makes them, on a lent table of rows and a lent record: what each is given, answers and leaves. They follow
--- from the promises of the calls on columns (`proofs/Core.antt`).
+-- The calls as a caller makes them, on a lent table of rows and a lent record: what each is given, answers and leaves. They are the
+-- promises of `compare::start`, `run` and `trace`.
 use Prim.Native.Nat.{ℕ}
 use mathlib.Core.Path.{_≡_}
 use mathlib.Core.Logic.{_≢_}

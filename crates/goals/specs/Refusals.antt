@@ -110,7 +110,7 @@ startRules lent = rule 15 (eqb lent 0) ∷ []
 abbrev pub runRules : ℕ → ℕ → ℕ → ℕ → List Row → Run → List ℕ
 runRules s m k lent rows r = rule 16 (impossible s m k (roomOf lent) rows r) ∷ []
 
--- and for a buffer of that many bytes
+-- trace: 16, and 17, and 18 for a buffer of that many bytes
 abbrev pub traceRules : ℕ → ℕ → ℕ → ℕ → List Row → Run → ℕ → List ℕ
 traceRules s m k lent rows r buffer =
     rule 16 (impossible s m k (roomOf lent) rows r)

@@ -15,7 +15,8 @@ use Rattle.compare.specs.declared.Work.{Work}
 use Rattle.compare.specs.Calls.{answered, Works, TracesAsked}
 use Rattle.compare.proofs.Laws.{loaded, loaded-next}
 use Rattle.own_table.specs.declared.Own.{Own}
-use Rattle.own_table.specs.Tables.{tableIn, CallsOwn, CallsTable, TracesTable}
+use Rattle.own_table.specs.Tables.{tableIn, CallsTable, TracesTable}
+use Rattle.own_table.specs.Core.{CallsOwn}
 
 -- one row of the columns more
 pub taken-next : (c : Columns) (i : ℕ) (rows : List Row) → i < length rows → take i rows ≡ rowsIn c i → take (i + 1) (set rows i (rowAt c i)) ≡ rowsIn c (i + 1)

@@ -1,8 +1,7 @@
 -- The calls on a table of one's own, which is made of columns: what each tells and leaves.
-use Prim.Native.Nat.{ℕ, _≤_, min}
+use Prim.Native.Nat.{ℕ, min}
 use mathlib.Core.Path.{_≡_}
 use mathlib.Core.List.{List}
-use lib.ListN.{length, take}
 use Rattle.goals.specs.declared.Row.{Row}
 use Rattle.goals.specs.declared.Run.{Run}
 use Rattle.asking.specs.declared.Asked.{Asked}
@@ -11,20 +10,11 @@ use Rattle.columns.specs.declared.Tracing.{Tracing}
 use Rattle.demands.specs.Calls.{lent}
 use Rattle.compare.specs.declared.Work.{Work}
 use Rattle.compare.specs.Calls.{answered, Works, TracesAsked}
-use Rattle.own_table.specs.declared.Own.{Own}
 use Rattle.own_table.specs.declared.Told.{Told}
 
 -- the table: the rows lent in the columns, and no more than 65,536
 abbrev pub tableIn : ℕ → Columns → List Row
 tableIn n c = rowsIn c (min 65536 (lentIn n c))
-
--- n rows are in the table and in every column
-abbrev pub Enough : ℕ → Columns → Type 0
-Enough n c = (n ≤ 65536) × (n ≤ length (c .places)) × (n ≤ length (c .sets)) × (n ≤ length (c .parents)) × (n ≤ length (c .letters))
-
--- a call on the first n rows of a table by value, and what is left at its front
-abbrev pub CallsOwn : Work → Asked → List Row → ℕ → Run → Own → Type 0
-CallsOwn work a table n held r = Works work a (lent (take n table) held) (answered (r .answer)) (lent (take n (r .rows)) (r .run))
 
 -- the promise of `call_table`: what is told is what the call on the table's rows and the record answers and leaves, and the rows that it
 -- leaves are at the front of the columns, "the other rows stay"

@@ -16,7 +16,8 @@ ghost use lib.ListN.{take};
 ghost use Rattle.columns.specs.Calls.{here, before, after, rowsIn, put, tracing};
 ghost use Rattle.demands.specs.Calls.{lent};
 ghost use Rattle.compare.specs.Calls.{TracesAsked};
-ghost use Rattle.own_table.specs.Tables.{Enough, CallsOwn, CallsTable, TracesTable};
+ghost use Rattle.own_table.specs.Tables.{CallsTable, TracesTable};
+ghost use Rattle.own_table.specs.Core.{Enough, CallsOwn};
 
 // What a start or run call on a table of its own tells: the record, and the answer.
 pub struct Told {

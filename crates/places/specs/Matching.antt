@@ -22,7 +22,7 @@ maskedTo test masks (suc k) = bitOr (maskedTo test masks k) (cond (test (getD ma
 abbrev pub namingTo : List ℕ → ℕ → ℕ → ℕ
 namingTo masks i = maskedTo (λ m. has m i) masks
 
--- the places among 1 to k that some letter of s signals can match: those whose present mask names no signal at s or above
+-- the places among 1 to k whose present mask names no signal of number s or above; the others match no letter
 abbrev pub aliveTo : List ℕ → ℕ → ℕ → ℕ
 aliveTo present s = maskedTo (λ m. within s m) present
 
@@ -53,6 +53,6 @@ leftTo naming x all (suc i) = without (leftTo naming x all i) (cond (has x i) (g
 unfoldable pub matchingBy : Naming → ℕ → ℕ → ℕ
 matchingBy naming s x = leftTo naming x (naming .alive) s
 
--- of any side these are the places that match the letter, whatever its masks name
+-- of any side of at most 16 signals and 63 instants these are the places that match the letter, whatever its masks name
 abbrev pub Matched : Type 0
 Matched = (sd : Side) → sd .s ≤ 16 → sd .count ≤ 63 → (x : ℕ) → x < 2 ^ sd .s → matchingBy (namingOf sd) (sd .s) x ≡ matching sd x

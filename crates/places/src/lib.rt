@@ -19,7 +19,7 @@ ghost use Rattle.places.specs.Walk.{Adds, Holds, Numbers, Surveyable};
 ghost use Rattle.places.specs.Matching.{namingTo, aliveTo, bySignal, namingOf, matchingBy};
 
 // What a comparison needs of a side, by place: s, the number of instants, their masks, the places that accept (bit j for
-// place j), and for each place those that may follow. Entries of no place are 0.
+// place j), and for each place those that may follow. Where a table made it, entries of no place are 0.
 pub struct Side {
     pub s: u8,
     pub count: u8,
@@ -35,7 +35,7 @@ pub struct Prepared {
     pub side: Side,
 }
 
-// The places that some letter can match; and for each signal, those that name it present and those that name it absent.
+// The places that name present no signal which no letter has; and for each signal, those that name it present and those that name it absent.
 pub struct Naming {
     pub alive: u64,
     pub present: [u64; 16],
@@ -382,7 +382,7 @@ fn at_most_63(count: u8) -> usize
     if count < 63 { count as usize } else { 63 }
 }
 
-// The places that some letter can match; and for each signal, those that name it present and those that name it absent.
+// The places that name present no signal which no letter has; and for each signal, those that name it present and those that name it absent.
 pub fn naming_of(side: Side) -> Naming
     ensures { λ r. ⌜ r ≡ namingOf side ⌝ }
 {

@@ -18,7 +18,7 @@ use Rattle.goals.specs.declared.Row.{Row}
 use Rattle.goals.specs.Goals.{row, eachMember, eachLetter}
 use Rattle.stepping.specs.declared.Source.{Source}
 use Rattle.stepping.specs.declared.Cursor.{Cursor}
-use Rattle.stepping.specs.Next.{membersAt, setAt, lettersIn, lowestFrom, lowest, atLetter, atGoal, taken, nextOf}
+use Rattle.stepping.specs.Next.{membersAt, setAt, lettersIn, lowestFrom, lowestMember, atLetter, atGoal, taken, nextGoal}
 use Rattle.stepping.specs.Rest.{goalsWith, goalsFor, lettersFrom, allGoals, rest, restOf}
 use Rattle.stepping.specs.declared.Next.{Next}
 use Rattle.stepping.specs.declared.Next.the-variants as next-variants
@@ -155,7 +155,7 @@ module _ (S : ℕ) where
       by false h = omega arith
 
   -- a set that has a member below 2^64 has its lowest below 64
-  pub lowest-is : (r : ℕ) → r ≡ lowest S → S < 2 ^ 64 → (S ≡ 0 → ⊥) → (r < 64) × Mem S r × ((j : ℕ) → j < r → Mem S j → ⊥)
+  pub lowest-is : (r : ℕ) → r ≡ lowestMember S → S < 2 ^ 64 → (S ≡ 0 → ⊥) → (r < 64) × Mem S r × ((j : ℕ) → j < r → Mem S j → ⊥)
   lowest-is r e l n =
       let below : (j : ℕ) → j < r → Mem S j → ⊥ = λ j h m. lowest-low 64 0 j (omega arith) (omega (arith, h, e)) m in
       let less : r < 64 = ⊎-elim
@@ -225,11 +225,11 @@ module _ (src : Source) (c : Cursor) where
   unfolding taken
   taken-none z = rw (eq-eqb _ _ z)
 
-  pub taken-goal : (j s : ℕ) → (c .members ≡ 0 → ⊥) → j ≡ lowest (c .members) → s ≡ single 64 j
+  pub taken-goal : (j s : ℕ) → (c .members ≡ 0 → ⊥) → j ≡ lowestMember (c .members) → s ≡ single 64 j
       → next-variants.Goal (row j (c .set) (src .parent) (c .letter)) (record { x = c .x; letter = c .letter; set = c .set; members = bitXor (c .members) (bitAnd (c .members) s) }) ≡ taken src c
   unfolding taken
   taken-goal j s n e f =
-      let k : s ≡ single 64 (lowest (c .members)) = f ∙ ap (single 64) e in
+      let k : s ≡ single 64 (lowestMember (c .members)) = f ∙ ap (single 64) e in
       (λ i. next-variants.Goal (row (e i) (c .set) (src .parent) (c .letter)) (record { x = c .x; letter = c .letter; set = c .set; members = bitXor (c .members) (bitAnd (c .members) (k i)) }))
       ∙ sym (rw (ne-eqb (c .members) 0 n))
 

@@ -28,8 +28,8 @@ unfoldable pub lowestFrom : ℕ → ℕ → ℕ → ℕ
 lowestFrom set j zero = j
 lowestFrom set j (suc n) = cond (has set j) j (lowestFrom set (suc j) n)
 
-abbrev pub lowest : ℕ → ℕ
-lowest set = lowestFrom set 0 64
+abbrev pub lowestMember : ℕ → ℕ
+lowestMember set = lowestFrom set 0 64
 
 -- the cursor at the letter x; where no follower matches it, the right side is not looked at
 unfoldable pub atLetter : Source → ℕ → Cursor
@@ -45,11 +45,11 @@ atGoal src (suc n) c = cond (eqb (c .members) 0) (atGoal src n (atLetter src (c 
 -- the goal of the cursor's lowest member, and the cursor without it; none where the cursor has no member
 unfoldable pub taken : Source → Cursor → Next
 taken src c =
-    let j = lowest (c .members) in
+    let j = lowestMember (c .members) in
     let goal = row j (c .set) (src .parent) (c .letter) in
     let next : Cursor = record { x = c .x; letter = c .letter; set = c .set; members = without (c .members) (single 64 j) } in
     cond (eqb (c .members) 0) next-variants.Done (next-variants.Goal goal next)
 
 -- what `next_goal` answers
-abbrev pub nextOf : Source → Cursor → Next
-nextOf src c = taken src (atGoal src (lettersIn src - c .x) c)
+abbrev pub nextGoal : Source → Cursor → Next
+nextGoal src c = taken src (atGoal src (lettersIn src - c .x) c)

@@ -1,6 +1,5 @@
--- All the goals that are still to come at a cursor, in their order; and that `next_goal` answers the first of them.
-use Prim.Native.Nat.{ℕ, zero, suc, _-_, _^_, _<_}
-use mathlib.Core.Path.{_≡_}
+-- All the goals that are still to come at a cursor, in their order. `next_goal` answers the first of them, and where the others stand.
+use Prim.Native.Nat.{ℕ, zero, suc, _-_}
 use mathlib.Core.List.{List, [], _∷_, _++_}
 use Rattle.goals.specs.declared.Row.{Row}
 use Rattle.goals.specs.Goals.{row, eachMember}
@@ -27,7 +26,7 @@ lettersFrom src x (suc n) = goalsFor src x ++ lettersFrom src (suc x) n
 abbrev pub allGoals : Source → List Row
 allGoals src = lettersFrom src 0 (lettersIn src)
 
--- all that is still to come: the members left of the cursor's letter, then the letters from x on
+-- all that is still to come: the cursor's members of its letter, then the letters from x on
 abbrev pub rest : Source → Cursor → List Row
 rest src c = goalsWith src (c .members) (c .set) (c .letter) ++ lettersFrom src (c .x) (lettersIn src - c .x)
 

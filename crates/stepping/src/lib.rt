@@ -4,11 +4,11 @@ use places::Naming;
 ghost use mathlib.Core.Path.{_≡_};
 ghost use Prim.Native.Nat.{ℕ, _-_, _<_, min};
 ghost use Rattle.bits.specs.Bit.{Mem};
-ghost use Rattle.stepping.specs.Next.{lettersIn, lowest, atLetter, atGoal, nextOf};
+ghost use Rattle.stepping.specs.Next.{lettersIn, lowestMember, atLetter, atGoal, nextGoal};
 ghost use Rattle.stepping.specs.Rest.{rest, restOf};
 
-// What the goals of a row are made of: the letters of the call (s signals, and for each side which places name a signal), and of the row
-// what follows it on the left and on the right, and its number.
+// What the goals of a row are made of: of the call s, how many letters there are (a caller's 2^s) and for each side which places name a
+// signal; of the row what follows it on the left and on the right, and its number.
 pub struct Source {
     pub s: u8,
     pub letters: u32,
@@ -35,7 +35,7 @@ pub enum Next {
 
 // The lowest member of a set; 64 where it has none.
 fn lowest(set: u64) -> u8
-    ensures is { λ r. ⌜ r ≡ lowest set ⌝ }
+    ensures is { λ r. ⌜ r ≡ lowestMember set ⌝ }
     ensures member { λ r. ⌜ ((set ≡ 0 → ⊥) → (r < 64) × Mem set r × ((j : ℕ) → j < r → Mem set j → ⊥)) ⌝ }
 {
     let mut j: u8 = 0;
@@ -101,9 +101,9 @@ fn at_goal(from: Source, at: Cursor) -> Cursor
     cur
 }
 
-// The next goal.
+// The next goal, and that it is the first of those to come: this follows from the whole answer, and is what callers need.
 pub fn next_goal(from: Source, at: Cursor) -> Next
-    ensures whole { λ r. ⌜ r ≡ nextOf from at ⌝ }
+    ensures whole { λ r. ⌜ r ≡ nextGoal from at ⌝ }
     ensures first { λ r. ⌜ restOf from r ≡ rest from at ⌝ }
 {
     let here = at_goal(from, at);

@@ -6,7 +6,7 @@ use Rattle.compare.proofs.Kit.{flft, fobs, fauth, fbor, fobor, Memory, 
 use Rattle.compare.proofs.Kit.{fjoin3, feqL, feqI, suffices, frame, done, look, look-raw, store-raw, init, forget, stop, hop, fld, from, load, lit, of-opd, and-then, no-more, assigns, returns, enter, params1, pass1, pass0, exec, whole, sub}
 use Rattle.compare.proofs.Kit.{look-in, Body, lft-new, lft-end, FmC, fmOf, owns, pureI, mem, cellAt, yes, RefT, MutRef, ptr-vals, mut-tells, sliceVal, MutSlice, Room, slice-vals, mut-slice-tells, heres, codedHoleys, at-slice, Held, row}
 use Rattle.compare.proofs.Kit.{opens-slice, closes-slice, plain, opens, closes, nothing, onEntry, Meets, tripleOf, Triple, entered, cited, says, Stays, stay-dropped, stay-ref, stay-slice, walkOf, AllGo, goes-dropped, goes-ref, goes-slice}
-use Rattle.compare.proofs.Kit.{ends-at, front, Asked, Row, Run, Columns, rowsIn, put, lent, Next, Work, answered, toLoad, Reaches, Works, WorksOn, Clauses, has-each, room-each, dies-each, lend-row, row-back, share-row, unshare-row, fills}
+use Rattle.compare.proofs.Kit.{ends-at, front, Asked, Row, Run, Columns, rowsIn, put, lent, Next, Work, answered, toLoad, LongEnough, Works, WorksOn, Clauses, has-each, room-each, dies-each, lend-row, row-back, share-row, unshare-row, fills}
 use Rattle.compare.proofs.Kit.{span, downs, past, upto, Blocks, env, allocs-each, frees-each, here, copied, slices, relends, had, calls-on, meets-by, N, Long, Quad, four-of, left-in, refs, vals-of, lives, wholes, in-rows, of-column}
 use Rattle.compare.proofs.Kit.{lend-four, share-four, four-back, unshare-four, four-rooms, R, D, J, S, used-fits, is-run, rows-fit, is-answer, as-usize, as-nothing, hands-uint, tells-run, zeros, zeros-is, zeros-long, empty, empty-long}
 use Rattle.compare.proofs.Kit.{loadable-reaches, Count, Load, Core, Store, work-loadable, works-rows, work-fits, Known, known, asking, working, recorded, leaving, answering, makes-of, hands, as-named}
@@ -75,10 +75,10 @@ module _ {M : Type 1} (𝓤 : URA M) (H : Heap 𝓤) (A : Atoms 𝓤) (W : Given
     within-fits : (n : ℕ) → Within n → n < 2 ^ 64
     within-fits n within = omega (arith, work-loadable work n (h .used) (length ys) within .1)
 
-    enough-load : (n : ℕ) → Within n → Reaches n ys empty
+    enough-load : (n : ℕ) → Within n → LongEnough n ys empty
     enough-load n within = loadable-reaches n ys (work-loadable work n (h .used) (length ys) within)
 
-    enough-store : (n : ℕ) → Within n → (d : Columns) → Loaded n d → (c : Columns) → Long c → (r : Next) → Ran d r c → Reaches (r .rows) ys c
+    enough-store : (n : ℕ) → Within n → (d : Columns) → Loaded n d → (c : Columns) → Long c → (r : Next) → Ran d r c → LongEnough (r .rows) ys c
     enough-store n within d filled c longs r ran =
         let u = work-fits work ys h n within zeros zeros-long d filled asked r c ran in
         (u .0, omega (arith, u .1, longs .0), omega (arith, u .1, longs .1), omega (arith, u .1, longs .2), omega (arith, u .1, longs .3))

@@ -3,7 +3,7 @@ use mathlib.Core.Path.{_≡_, sym, ap}
 use borrow.Author.Needs.{needs}
 use Rattle.goals.specs.declared.Run.{Run}
 use Rattle.columns.specs.declared.Called.{Called}
-use Rattle.compare.specs.Calls.{nextOf}
+use Rattle.compare.specs.Core.{nextOf}
 use Rattle.compare.proofs.next_of.Statement.{statement}
 use Rattle.compare.proofs.next_of.Tie as tie
 

@@ -3,7 +3,7 @@ use mathlib.Core.Path.{_≡_, sym, ap, _∙_}
 use Prim.Native.Nat.{ℕ}
 use borrow.Author.Needs.{needs}
 use Rattle.compare.specs.declared.Work.{Work}
-use Rattle.compare.specs.Calls.{toLoad}
+use Rattle.compare.specs.Core.{toLoad}
 use Rattle.compare.proofs.to_load.Statement.{statement}
 use Rattle.compare.proofs.to_load.Tie as tie
 

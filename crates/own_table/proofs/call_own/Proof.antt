@@ -3,7 +3,7 @@
 use Rattle.own_table.proofs.Kit.{refl, sym, ap, subst, ℕ, _<_, _≤_, _^_, List, [], _∷_, Holds, take, URA, fullShare, named, erased, mut, w64, tyArray, tyRef, spell, Val, WT, hasTy, vint, SProp, ent, id⊢, GName, ftrue, fat, flft, Memory, Routine, Heap, WpFn, Tables, Atoms, Fun, fact, givenOf, tables, tablesOf, Given, ‵, raw, _⊛_, ⋆, some, later, _$_, _∵_, !, qed, by, move, keep, drops, use1, split, join, pick, rewrite, fsplit, fjoin, feqL, suffices, frame, await, done, look, init, forget, stop, from, load, addr, of-opd, and-then, no-more, assigns, land, returns, enter, alloc1, alloc0, params1, pass1, pass0, free1, free0, agg, lft-new, lft-end, fmOf, WpFn-mono, owns, Is, shows, pointee, uint-vals, uint-tells, usize, ArrayOf, ptr-vals, sliceTy, sliceVal, slice-vals, plain, peeks, heard, nothing, only, yes, onEntry, Meets, tripleOf, Contract, Triple, calls-at, Lasts, ensured, lasts, entered, cited, says, needs, Stays, stay-dropped, walkOf, AllGo, goes-dropped, ends-at, walked, walk-meets, Row, Run, Asked, lent, Answered, Work, answered, Works, Own, Known, known, typed-as, makes-of, hands, D, R, S, J, B, asking, recorded, working, answering}
 use Rattle.own_table.proofs.Values.{O, Table, tabled, owning, own, is-own}
 use Rattle.own_table.proofs.Lending.{N, front-long, lend-front, front-back, front-room, at-rows, at-run, lend-record, record-back}
-use Rattle.own_table.specs.Tables.{CallsOwn}
+use Rattle.own_table.specs.Core.{CallsOwn}
 use Rattle.compare.proofs.call as call′
 use Rattle.compare.proofs.call.Symbol as call-def
 use Rattle.compare.proofs.call.Symbol.{name as #compare·call}

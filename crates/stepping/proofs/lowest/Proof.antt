@@ -4,13 +4,13 @@ use mathlib.Core.Path.{_≡_, refl, sym, _∙_}
 use native.Mathlib.Omega.{arith}
 use borrow.Author.Tests.{eqb-true}
 use borrow.Author.Needs.{needs}
-use Rattle.stepping.specs.Next.{lowestFrom, lowest}
+use Rattle.stepping.specs.Next.{lowestFrom, lowestMember}
 use Rattle.stepping.proofs.Laws.{lowest-here, lowest-next, lowest-end, lowest-is}
 use Rattle.stepping.proofs.lowest.Statement.{statement}
 use Rattle.stepping.proofs.lowest.Tie as tie
 
 abbrev Inv-loop : tie.InvT-loop
-Inv-loop set j₀ j = (j ≤ 64) × (lowestFrom set j (64 - j) ≡ lowest set)
+Inv-loop set j₀ j = (j ≤ 64) × (lowestFrom set j (64 - j) ≡ lowestMember set)
 
 abbrev μ-loop : tie.MeasureT-loop
 μ-loop set j₀ j = 64 - j
