@@ -867,17 +867,23 @@ BY_VALUE = (1, [D, ANY, sequence(0, 1)], 1, [D, repetition(0), ANY, sequence(1, 
 
 
 def forged_side(v, title, clauses, *numbers):
-    """A side of BY_VALUE with these numbers forged, the left and then the right: all calls refuse by 24 for these clauses and
-    no other, naming the side, or none does for its sides."""
+    """A side of BY_VALUE with these numbers forged, the left and then the right. For these clauses and no other all calls refuse by 24,
+    naming the side, in the middle of a run, and once the numbers are as they were the run goes on: its rows and record are untouched. With
+    no clause none refuses for its sides."""
     for name in 'left', 'right':
         v.title('%s, %s' % (title, name))
-        r = v.record(BY_VALUE, 9).start(STARTED)
+        r = v.record(BY_VALUE, 9).start(STARTED).run(1)
+        state, side, was = r.state.state(), getattr(r.forged_sides(), name), []
         for number, value, *place in numbers:
+            was.append((number, getattr(side, number)[place[0]] if place else getattr(side, number), *place))
             r.forge_side(name, number, value, *place)
-        assert getattr(r.forged_sides(), name).clauses_of_24() == set(clauses), title
+        assert side.clauses_of_24() == set(clauses), title
         v.clauses |= set(clauses)
         if clauses:
-            r.start((name, 24)).run(9, (name, 24)).trace(1, (name, 24)).show(0, 2).save()
+            r.start((name, 24)).run(9, (name, 24)).trace(1, (name, 24))
+            for number, *rest in reversed(was):
+                r.forge_side(name, number, *rest)
+            r.run(0, state).show(0, 9).run(9).save()
         else:
             r.run(9).trace(3).show(0, 9).start(STARTED).run(1).run(9).save()
 
@@ -894,13 +900,11 @@ def sides_impossible(v):
     forged_side(v, 'possible: every place accepts', [], ('accepts', 2 ** (k + 1) - 1))
     for j in k + 1, 32, 63:
         forged_side(v, 'place %d accepts' % j, ['the accepting set names a place above that count'], ('accepts', 2 ** j))
-        forged_side(v, 'place %d follows the start' % j, ['a follow set names a place above it'], ('follow', 2 ** j, 0))
-        forged_side(v, 'place %d follows place 63' % j, ['a follow set names a place above it'], ('follow', 2 ** j, 63))
+    for i in 0, 1, 31, 62, 63:
+        for j in k + 1, 63:
+            forged_side(v, 'place %d follows place %d' % (j, i), ['a follow set names a place above it'], ('follow', 2 ** j, i))
+        forged_side(v, 'the start follows place %d' % i, ['a follow set names 0'], ('follow', 1, i))
     forged_side(v, 'possible: every place follows every place', [], *[('follow', 2 ** (k + 1) - 2, j) for j in range(64)])
-    for j in 0, 1, 63:
-        forged_side(v, 'the start follows place %d' % j, ['a follow set names 0'], ('follow', 1, j))
-    forged_side(v, 'possible: the count is 63 and place 63 accepts and follows', [], ('count', 63), ('accepts', 2 ** 63),
-                ('follow', 2 ** 63, 0))
     forged_side(v, 'the count is 1: what accepts and follows is above it',
                 ['the accepting set names a place above that count', 'a follow set names a place above it'], ('count', 1))
 
@@ -916,6 +920,17 @@ def masks_of_any_kind(v):
     v.title('an absent signal that no letter has: as if it were not named')
     (v.pair((1, [D], [D]), 4).forge_side('left', 'absent', 65534, 1).start(STARTED).run(9, (2, 2, INCLUDED))
      .show(0, 3).save())
+
+
+def at_the_bounds(v):
+    v.title('s is 8 on both sides: one letter in two has D')
+    r = v.pair((1, [D], [D]), 4).forge_side('left', 's', 8).forge_side('right', 's', 8)
+    r.start(STARTED).run(9, (2, 2, INCLUDED)).show(0, 4).save()
+    for accepts, state in (2 ** 63, (2, 2, INCLUDED)), (2 ** 62, (1, 2, REFUTED)):
+        v.title('a right side of 63 instants, of which the last is {D} and follows the start; place %d accepts' % (accepts.bit_length() - 1))
+        r = v.pair((1, [D], [D]), 4).forge_side('right', 'count', 63).forge_side('right', 'present', 1, 63)
+        r.forge_side('right', 'follow', 2 ** 63, 0).forge_side('right', 'accepts', accepts)
+        r.start(STARTED).run(9, state).trace(2).show(0, 4).save()
 
 
 def order_of_24(v):
@@ -936,7 +951,7 @@ def order_of_24(v):
 
 def by_value():
     v = Vectors()
-    for section in (sides_impossible, masks_of_any_kind, order_of_24):
+    for section in (sides_impossible, masks_of_any_kind, at_the_bounds, order_of_24):
         section(v)
     assert len(v.clauses) == 5
     for name in 'start', 'run', 'trace':
@@ -1214,7 +1229,7 @@ def random_number(pick, side):
 def random_forged(pick, v):
     """Sides of two tables with some numbers forged, run to an end."""
     s, left, right = random_pair(pick)
-    rows = pick.choice([4, 10, 100, 300])
+    rows = pick.choice([2, 3, 4, 10, 100, 300])
     r = v.record((s, left, s, right), rows)
     for _ in range(pick.randint(1, 6)):
         name = pick.choice(['left', 'right'])
@@ -1230,8 +1245,8 @@ def random_forged_vectors(seed, count):
     pick, v = random.Random(seed), Vectors()
     v.title('%d random records of forged sides, of seed %d' % (count, seed))
     ended = [random_forged(pick, v) for _ in range(count)]
-    for outcome in INCLUDED, REFUTED:  # a fair part of each, or the sides are of no use
-        assert 10 * ended.count(outcome) > count, (outcome, ended.count(outcome))
+    for outcome, part in (INCLUDED, 10), (REFUTED, 10), (NO_ROOM, 50):  # a fair part of each, or the sides are of no use
+        assert part * ended.count(outcome) > count, (outcome, ended.count(outcome))
     assert ('run', 24) in v.seen and ('run', 14) in v.seen
     return v
 

@@ -5,11 +5,11 @@ use mathlib.Core.Bool.{Bool, true, false, cond, not}
 use mathlib.Core.List.{List, [], _∷_, _++_, map}
 use native.Mathlib.Omega.{arith}
 use lib.Dec.{eqb}
-use borrow.Author.Tests.{eq-eqb, ne-eqb, eqb-true, eqb-false, ltb-false}
+use borrow.Author.Tests.{eq-eqb, ne-eqb, eqb-true, eqb-false}
 use Rattle.effect.specs.Node.{decodings, nodesOf}
 use Rattle.effect.specs.declared.Node.{Node}
 use Rattle.effect.specs.Refusals.{rule, sideRefusal}
-use Rattle.effect.proofs.Laws.{or-none, rule-none, not-none}
+use Rattle.effect.proofs.Laws.{rule-none, not-none}
 use Rattle.effect.proofs.Accepted.{accepted-iff}
 use Rattle.places.specs.declared.Prepared.{Prepared}
 use Rattle.places.specs.declared.Side.{Side}
@@ -20,9 +20,9 @@ use Rattle.goals.specs.declared.SideRefusal.{SideRefusal}
 use Rattle.goals.specs.Run.{State, state, run}
 use Rattle.goals.specs.Refusals.{Given, roomOf, leftOf, rightOf, Against, against, againstOf, first, sideRules, refusalBy, refusalOf, startRules, runRules, traceRules, startRefusal, runRefusal, traceRefusal, runAfter, Reply, exit, leaves}
 use Rattle.asking.specs.declared.Asked.{Asked}
-use Rattle.asking.specs.Asked.{named, whyNot, askedOf, askedRules, Judged, sideImpossible, startRefusalOn, runRefusalOn, traceRefusalOn, runAfterOn}
+use Rattle.asking.specs.Asked.{named, whyNot, askedOf, askedRules, Judged, sideImpossible, Possible, startRefusalOn, runRefusalOn, traceRefusalOn, runAfterOn}
 use Rattle.asking.proofs.Refusing.{first-here, first-skip, first-none, first-more, first-past, first-zero, named-self, Sided, named-sided, sided}
-use Rattle.asking.proofs.Possible.{made-possible}
+use Rattle.asking.proofs.Possible.{passes-iff, made-possible}
 
 -- ---- both sides
 -- the rows of the sides are none of them refusals
@@ -100,11 +100,8 @@ pub record Able (a : Asked) : Type 0 where
   pub few-right : a .right .count ≤ 63
   pub same : a .left .s ≡ a .right .s
 
-side-able : (sd : Side) → rule 24 (sideImpossible sd) ≡ 0 → (sd .s ≤ 8) × (sd .count ≤ 63)
-unfolding sideImpossible
-side-able sd z =
-    let p = or-none _ _ .0 (rule-none 23 (sideImpossible sd) .0 z) in
-    (ltb-false 8 (sd .s) (p .0), ltb-false 63 (sd .count) (or-none _ _ .0 (p .1) .0))
+side-able : (sd : Side) → rule 24 (sideImpossible sd) ≡ 0 → Possible sd
+side-able sd z = passes-iff sd .0 (rule-none 23 (sideImpossible sd) .0 z)
 
 pub able : (a : Asked) → first (askedRules a) .number ≡ 0 → Able a
 able a h =
@@ -113,9 +110,9 @@ able a h =
     let s = first-none _ _ (d .1) in
     let l = side-able (a .left) (b .0) in
     record {
-      signals = l .0;
-      few-left = l .1;
-      few-right = side-able (a .right) (d .0) .1;
+      signals = l .signals;
+      few-left = l .few;
+      few-right = side-able (a .right) (d .0) .few;
       same = eqb-true _ _ (not-none _ .0 (rule-none 13 (not (eqb (a .left .s) (a .right .s))) .0 (s .0)));
     }
 

@@ -1,11 +1,11 @@
 -- Both sides by value, as the calls take them: what `ask` makes of two tables, which values the calls refuse, and the calls' refusals.
-use Prim.Native.Nat.{ℕ, _+_}
+use Prim.Native.Nat.{ℕ, _+_, _≤_, _<_}
 use mathlib.Core.Path.{_≡_}
-use mathlib.Core.Bool.{Bool, cond, not, _||_}
+use mathlib.Core.Bool.{Bool, false, cond, not, _||_}
+use mathlib.Core.Logic.{_↔_}
 use mathlib.Core.List.{List, [], _∷_}
 use lib.Dec.{eqb, ltb}
-use lib.ListN.{getD}
-use Rattle.bits.specs.Bit.{has, within}
+use Rattle.bits.specs.Bit.{Mem, has, within}
 use Rattle.effect.specs.Refusals.{rule, someBelow}
 use Rattle.places.specs.declared.Side.{Side}
 use Rattle.places.specs.Side.{noSide}
@@ -49,6 +49,17 @@ sideImpossible sd =
     || (ltb 63 (sd .count)
     || (not (within (sd .count + 1) (sd .accepts))
     || someBelow 64 (λ j. strays (sd .count) (followers sd j))))
+
+-- The same as a property: the side passes exactly when it has at most 8 signals and 63 instants, a place that accepts is not above the
+-- count, and one that follows is 1 or above, and not above the count.
+pub record Possible (sd : Side) : Type 0 where
+  pub signals : sd .s ≤ 8
+  pub few : sd .count ≤ 63
+  pub accepting : (j : ℕ) → Mem (sd .accepts) j → j ≤ sd .count
+  pub following : (i j : ℕ) → i < 64 → Mem (followers sd i) j → (1 ≤ j) × (j ≤ sd .count)
+
+abbrev pub PassesIff : Type 0
+PassesIff = (sd : Side) → (sideImpossible sd ≡ false) ↔ Possible sd
 
 -- The refusals of two sides by value, in their order: what is known of them already, then 24, "taking the position of 2 to 12", left
 -- before right, then 14.
