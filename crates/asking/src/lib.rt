@@ -10,7 +10,8 @@ ghost use lib.Dec.{eqb};
 ghost use lib.ListN.{getD};
 ghost use Rattle.effect.specs.Refusals.{rule, someBelow};
 ghost use Rattle.goals.specs.Refusals.{given, against, first};
-ghost use Rattle.asking.specs.Asked.{named, askedOf, strays, sideImpossible, whyNot};
+ghost use Rattle.asking.specs.Asked.{named, strays, sideImpossible};
+ghost use Rattle.asking.specs.Promises.{BothIs, AskIs, SideImpossibleIs, WhyNotIs};
 
 // Both sides as a call takes them, or why there are none (number 0: there are).
 pub struct Asked {
@@ -21,7 +22,7 @@ pub struct Asked {
 
 // A refusal that names both sides.
 pub fn both(number: u8) -> SideRefusal
-    ensures { λ r. ⌜ r ≡ named (against 3 number) ⌝ }
+    ensures { λ r. ⌜ BothIs number r ⌝ }
 {
     SideRefusal {
         side: Which::Both,
@@ -56,7 +57,7 @@ fn sides_refusal(ls: u8, left: Refusal, rs: u8, right: Refusal) -> SideRefusal
 // Makes both sides of two tables, or says why not (2, 3, 7 to 12 of the left, then of the right; 14). With a refusal both are the side of
 // nothing, so that no call can take a side of tables that do not go together.
 pub fn ask(ls: u8, left: &[u32], rs: u8, right: &[u32]) -> Asked
-    ensures { λ r. ⌜ r ≡ askedOf (given ls (now (left .entry)) rs (now (right .entry))) ⌝ }
+    ensures { λ r. ⌜ AskIs (given ls (now (left .entry)) rs (now (right .entry))) r ⌝ }
 {
     let on_left = places::prepare(ls, left);
     let on_right = places::prepare(rs, right);
@@ -100,7 +101,7 @@ fn some_strays(count: u8, follow: [u64; 64]) -> bool
 
 // Refusal 24 of a side that anybody may have made.
 pub fn side_impossible(side: Side) -> bool
-    ensures { λ r. ⌜ r ≡ sideImpossible side ⌝ }
+    ensures { λ r. ⌜ SideImpossibleIs side r ⌝ }
 {
     let follow = side.follow;
     let count = side.count;
@@ -120,7 +121,7 @@ fn refusal_24(side: Side) -> Refusal
 
 // Why a call refuses its two sides; number 0 where it does not.
 pub fn why_not(asked: Asked) -> SideRefusal
-    ensures { λ r. ⌜ r ≡ whyNot asked ⌝ }
+    ensures { λ r. ⌜ WhyNotIs asked r ⌝ }
 {
     let known = asked.why;
     if known.refusal.number != 0 {

@@ -2,3 +2,4 @@ pub mod Goals
 pub mod Run
 pub mod Refusals
 pub mod Cases
+pub mod Promises

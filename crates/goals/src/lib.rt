@@ -3,12 +3,10 @@ use effect::Refusal;
 use places::Side;
 ghost use mathlib.Core.Path.{_≡_};
 ghost use mathlib.Core.Bool.{cond};
-ghost use Prim.Native.Nat.{min};
 ghost use lib.ListN.{getD};
 ghost use Rattle.bits.specs.Bit.{has};
-ghost use Rattle.places.specs.Readings.{spreadTo};
-ghost use Rattle.goals.specs.Goals.{badGoal, sameGoal};
-ghost use Rattle.goals.specs.Refusals.{roomOf, recordImpossible, rowZeroImpossible, rowImpossible};
+ghost use Rattle.goals.specs.Promises.{SameGoalIs, BadIs, FollowersAtIs, SpreadOfIs, RecordImpossibleIs, RowZeroImpossibleIs, RowImpossibleIs};
+ghost use Rattle.goals.specs.Promises.{LesserIs, ShortestIs, RoomOfIs};
 
 // A row of the goal table: a left place, a set of right places (bit j for place j), the row that it was entered from and
 // the letter that led here.
@@ -41,21 +39,21 @@ pub struct SideRefusal {
 
 // Whether two goals are one.
 pub fn same_goal(a_place: u8, a_set: u64, b_place: u8, b_set: u64) -> bool
-    ensures { λ r. ⌜ r ≡ sameGoal «a_place» «a_set» «b_place» «b_set» ⌝ }
+    ensures { λ r. ⌜ SameGoalIs «a_place» «a_set» «b_place» «b_set» r ⌝ }
 {
     (a_place == b_place) & (a_set == b_set)
 }
 
 // Whether a goal is bad: its left place accepts and no member of its set does. `left` and `right` are the places that accept.
 pub fn is_bad(left: u64, right: u64, place: u8, set: u64) -> bool
-    ensures { λ r. ⌜ r ≡ badGoal left right place set ⌝ }
+    ensures { λ r. ⌜ BadIs left right place set r ⌝ }
 {
     bits::has(left, place as u64) & (set & right == 0)
 }
 
 // The places that may follow place j; none past the end.
 pub fn followers_at(follow: [u64; 64], j: usize) -> u64
-    ensures { λ r. ⌜ r ≡ getD follow j 0 ⌝ }
+    ensures { λ r. ⌜ FollowersAtIs follow j r ⌝ }
 {
     if j < 64 { follow[j] } else { 0 }
 }
@@ -73,7 +71,7 @@ fn followers_if(follow: [u64; 64], set: u64, n: usize) -> u64
 
 // The places that follow a member of the set.
 pub fn spread_of(side: Side, set: u64) -> u64
-    ensures { λ r. ⌜ r ≡ spreadTo side set 64 ⌝ }
+    ensures { λ r. ⌜ SpreadOfIs side set r ⌝ }
 {
     let follow = side.follow;
     let mut r: u64 = 0;
@@ -87,7 +85,7 @@ pub fn spread_of(side: Side, set: u64) -> u64
 
 // Refusal 16 of a record in a room: its counts and its outcome.
 pub fn record_impossible(room: usize, held: Run) -> bool
-    ensures { λ r. ⌜ r ≡ recordImpossible room held ⌝ }
+    ensures { λ r. ⌜ RecordImpossibleIs room held r ⌝ }
 {
     let settled = held.settled;
     let used = held.used;
@@ -102,14 +100,14 @@ pub fn record_impossible(room: usize, held: Run) -> bool
 
 // Refusal 16 of row 0: it is not as start wrote it.
 pub fn row_zero_impossible(w: Row) -> bool
-    ensures { λ r. ⌜ r ≡ rowZeroImpossible w ⌝ }
+    ensures { λ r. ⌜ RowZeroImpossibleIs w r ⌝ }
 {
     !((w.place == 0) & ((w.set == 1) & ((w.parent == 0) & (w.letter == 0))))
 }
 
 // Refusal 16 of another row i: s signals, m instants on the left and k on the right.
 pub fn row_impossible(s: u8, m: u8, k: u8, i: usize, w: Row) -> bool
-    ensures { λ r. ⌜ r ≡ rowImpossible s m k i w ⌝ }
+    ensures { λ r. ⌜ RowImpossibleIs s m k i w r ⌝ }
 {
     ((w.place == 0) | (m < w.place))
         | ((bits::has(w.set, 0) | !bits::within(w.set, k as u64 + 1))
@@ -118,14 +116,14 @@ pub fn row_impossible(s: u8, m: u8, k: u8, i: usize, w: Row) -> bool
 
 // The lesser of two numbers.
 pub fn lesser(a: usize, b: usize) -> usize
-    ensures { λ r. ⌜ r ≡ min a b ⌝ }
+    ensures { λ r. ⌜ LesserIs a b r ⌝ }
 {
     if a < b { a } else { b }
 }
 
 // How many rows are lent: as many as the caller says, and no more than the shortest column has.
 pub fn shortest(lent: usize, places: usize, sets: usize, parents: usize, letters: usize) -> usize
-    ensures { λ r. ⌜ r ≡ min lent (min places (min sets (min parents letters))) ⌝ }
+    ensures { λ r. ⌜ ShortestIs lent places sets parents letters r ⌝ }
 {
     let later = lesser(parents, letters);
     let columns = lesser(places, lesser(sets, later));
@@ -134,7 +132,7 @@ pub fn shortest(lent: usize, places: usize, sets: usize, parents: usize, letters
 
 // The room of that many rows lent.
 pub fn room_of(lent: usize) -> usize
-    ensures { λ r. ⌜ r ≡ roomOf lent ⌝ }
+    ensures { λ r. ⌜ RoomOfIs lent r ⌝ }
 {
     if lent < 65535 { lent } else { 65535 }
 }

@@ -5,17 +5,16 @@ use mathlib.Core.List.{List}
 use Rattle.places.specs.declared.Side.{Side}
 use Rattle.places.specs.declared.Prepared.{Prepared}
 use Rattle.places.specs.declared.Naming.{Naming}
-use Rattle.places.specs.Side.{noSide, prepareOf}
-use Rattle.places.specs.Matching.{namingOf, matchingBy}
+use Rattle.places.specs.Promises.{NoSideIs, PrepareIs, NamingOfIs, MatchingIs}
 
-pub prepare-one : (s : ℕ) (ns : List ℕ) (r r′ : Prepared) → r ≡ prepareOf s ns → r′ ≡ prepareOf s ns → r ≡ r′
+pub prepare-one : (s : ℕ) (ns : List ℕ) (r r′ : Prepared) → PrepareIs s ns r → PrepareIs s ns r′ → r ≡ r′
 prepare-one s ns r r′ e f = e ∙ sym f
 
-pub no-side-one : (r r′ : Side) → r ≡ noSide → r′ ≡ noSide → r ≡ r′
+pub no-side-one : (r r′ : Side) → NoSideIs r → NoSideIs r′ → r ≡ r′
 no-side-one r r′ e f = e ∙ sym f
 
-pub naming-one : (sd : Side) (r r′ : Naming) → r ≡ namingOf sd → r′ ≡ namingOf sd → r ≡ r′
+pub naming-one : (sd : Side) (r r′ : Naming) → NamingOfIs sd r → NamingOfIs sd r′ → r ≡ r′
 naming-one sd r r′ e f = e ∙ sym f
 
-pub matching-one : (naming : Naming) (s x r r′ : ℕ) → r ≡ matchingBy naming s x → r′ ≡ matchingBy naming s x → r ≡ r′
+pub matching-one : (naming : Naming) (s x r r′ : ℕ) → MatchingIs naming s x r → MatchingIs naming s x r′ → r ≡ r′
 matching-one naming s x r r′ e f = e ∙ sym f

@@ -13,10 +13,11 @@ ghost use Rattle.effect.specs.Meaning.{at};
 ghost use Rattle.effect.specs.Refusals.{oneIfInstant};
 ghost use Rattle.effect.specs.WellFormed.{WellFormed};
 ghost use Rattle.places.specs.Places.{numberedNode};
-ghost use Rattle.places.specs.Side.{presentIn, absentIn, sideOf, noSide, prepareOf};
+ghost use Rattle.places.specs.Side.{presentIn, absentIn, sideOf};
 ghost use Rattle.places.specs.Walk.{tableOf, Walkable, endsBy, endsOf, sequenceEnds, choiceEnds, grown, linkAt, linkedTo};
 ghost use Rattle.places.specs.Walk.{Adds, Holds, Numbers, Surveyable};
-ghost use Rattle.places.specs.Matching.{namingTo, aliveTo, bySignal, namingOf, matchingBy};
+ghost use Rattle.places.specs.Matching.{namingTo, aliveTo, bySignal};
+ghost use Rattle.places.specs.Promises.{NoSideIs, PrepareIs, NamingOfIs, MatchingIs};
 
 // What a comparison needs of a side, by place: s, the number of instants, their masks, the places that accept (bit j for
 // place j), and for each place those that may follow. Where a table made it, entries of no place are 0.
@@ -288,7 +289,7 @@ fn side_of(s: u8, nodes: &[u32]) -> Side
 
 // The side of nothing, which goes with a refusal.
 pub fn no_side() -> Side
-    ensures { λ r. ⌜ r ≡ noSide ⌝ }
+    ensures { λ r. ⌜ NoSideIs r ⌝ }
 {
     Side {
         s: 0,
@@ -302,7 +303,7 @@ pub fn no_side() -> Side
 
 // Makes a side of a node table, or refuses it (2, 3, 7 to 12).
 pub fn prepare(s: u8, nodes: &[u32]) -> Prepared
-    ensures { λ r. ⌜ r ≡ prepareOf s (now (nodes .entry)) ⌝ }
+    ensures { λ r. ⌜ PrepareIs s (now (nodes .entry)) r ⌝ }
 {
     match effect::check(s, nodes) {
         Checked::Refused(r) => {
@@ -384,7 +385,7 @@ fn at_most_63(count: u8) -> usize
 
 // The places that name present no signal which no letter has; and for each signal, those that name it present and those that name it absent.
 pub fn naming_of(side: Side) -> Naming
-    ensures { λ r. ⌜ r ≡ namingOf side ⌝ }
+    ensures { λ r. ⌜ NamingOfIs side r ⌝ }
 {
     let count = at_most_63(side.count);
     let present = side.present;
@@ -421,7 +422,7 @@ fn taken_away(naming: Naming, x: u16, i: usize) -> u64
 
 // The places of a side of s signals that match the letter x.
 pub fn matching(naming: Naming, s: u8, x: u16) -> u64
-    ensures { λ r. ⌜ r ≡ matchingBy naming s x ⌝ }
+    ensures { λ r. ⌜ MatchingIs naming s x r ⌝ }
 {
     let n = s as usize;
     let mut r = naming.alive;

@@ -11,7 +11,8 @@ use Rattle.sheet.specs.declared.Reading.the-variants as reading-variants
 use Rattle.sheet.specs.declared.Writing.{Writing}
 use Rattle.sheet.specs.declared.Writing.the-variants as writing-variants
 use Rattle.effect.specs.declared.Refusal.{Refusal}
-use Rattle.sheet.specs.Sheet.{sheetLength, countIn, Left, reading, writing, Reads, Writes}
+use Rattle.sheet.specs.Sheet.{Left, reading, writing, Reads, Writes}
+use Rattle.sheet.specs.Promises.{LengthByHeaderIs, RefusalOfIs}
 
 number-of : {a b : Answer} → a ≡ b → a .number ≡ b .number
 number-of e = ap (λ (t : Answer). t .number) e
@@ -46,8 +47,8 @@ read-one sheet lent l l′ r r′ p q = let e = p ∙ sym q in (reading-one r r�
 pub write-one : (s : ℕ) (ns out o o′ : List ℕ) (r r′ : Writing) → Writes s ns out r o → Writes s ns out r′ o′ → (r ≡ r′) × (o ≡ o′)
 write-one s ns out o o′ r r′ p q = let e = p ∙ sym q in (writing-one r r′ (answer-of e), lent-of e)
 
-pub length-by-header-one : (sheet : List ℕ) (r r′ : ℕ) → r ≡ sheetLength (countIn sheet) → r′ ≡ sheetLength (countIn sheet) → r ≡ r′
+pub length-by-header-one : (sheet : List ℕ) (r r′ : ℕ) → LengthByHeaderIs sheet r → LengthByHeaderIs sheet r′ → r ≡ r′
 length-by-header-one sheet r r′ e f = e ∙ sym f
 
-pub refusal-of-one : (answer : Reading) (r r′ : Refusal) → r .number ≡ reading answer .number → r′ .number ≡ reading answer .number → r ≡ r′
+pub refusal-of-one : (answer : Reading) (r r′ : Refusal) → RefusalOfIs answer r → RefusalOfIs answer r′ → r ≡ r′
 refusal-of-one answer r r′ e f = λ i. record { number = (e ∙ sym f) i }

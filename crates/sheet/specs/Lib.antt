@@ -1,3 +1,4 @@
 pub mod Bits
 pub mod Sheet
 pub mod RoundTrip
+pub mod Promises

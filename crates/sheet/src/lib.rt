@@ -8,7 +8,8 @@ ghost use lib.Dec.{ltb};
 ghost use lib.ListN.{length, getD};
 ghost use Rattle.effect.specs.Refusals.{rule, front};
 ghost use Rattle.sheet.specs.Bits.{each, field, fields};
-ghost use Rattle.sheet.specs.Sheet.{sheetLength, sheetBits, countIn, headerRefusal, exit, left, sheetOf, reading, writing, Reads, Writes};
+ghost use Rattle.sheet.specs.Sheet.{sheetLength, sheetBits, headerRefusal, exit, left, sheetOf, reading, writing, Reads, Writes};
+ghost use Rattle.sheet.specs.Promises.{LengthByHeaderIs, RefusalOfIs};
 
 // What reading a sheet answers: s and the number of nodes, or the refusal.
 pub enum Reading {
@@ -58,7 +59,7 @@ fn length_of(n: usize) -> usize
 
 // The length in bytes that a sheet's header gives, however long what follows is. Bits past the end count as zeros.
 pub fn length_by_header(sheet: &[u8]) -> usize
-    ensures { λ r. ⌜ r ≡ sheetLength (countIn (now (sheet .entry))) ⌝ }
+    ensures { λ r. ⌜ LengthByHeaderIs (now (sheet .entry)) r ⌝ }
 {
     length_of(field_at(sheet, 4, 8) as usize)
 }
@@ -126,7 +127,7 @@ pub fn read(sheet: &[u8], nodes: &mut [u32]) -> Reading
 
 // The refusal of a reading; number 0 where it was accepted.
 pub fn refusal_of(answer: Reading) -> Refusal
-    ensures { λ r. ⌜ r .number ≡ reading answer .number ⌝ }
+    ensures { λ r. ⌜ RefusalOfIs answer r ⌝ }
 {
     match answer {
         Reading::Accepted(_, _) => Refusal { number: 0 },

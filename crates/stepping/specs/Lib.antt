@@ -1,2 +1,3 @@
 pub mod Next
 pub mod Rest
+pub mod Promises

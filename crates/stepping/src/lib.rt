@@ -4,8 +4,9 @@ use places::Naming;
 ghost use mathlib.Core.Path.{_≡_};
 ghost use Prim.Native.Nat.{ℕ, _-_, _<_, min};
 ghost use Rattle.bits.specs.Bit.{Mem};
-ghost use Rattle.stepping.specs.Next.{lettersIn, lowestMember, atLetter, atGoal, nextGoal};
+ghost use Rattle.stepping.specs.Next.{lettersIn, lowestMember, atLetter, atGoal};
 ghost use Rattle.stepping.specs.Rest.{rest, restOf};
+ghost use Rattle.stepping.specs.Promises.{NextGoalIs};
 
 // What the goals of a row are made of: of the call s, how many letters there are (a caller's 2^s) and for each side which places name a
 // signal; of the row what follows it on the left and on the right, and its number.
@@ -103,7 +104,7 @@ fn at_goal(from: Source, at: Cursor) -> Cursor
 
 // The next goal, and that it is the first of those to come: this follows from the whole answer, and is what callers need.
 pub fn next_goal(from: Source, at: Cursor) -> Next
-    ensures whole { λ r. ⌜ r ≡ nextGoal from at ⌝ }
+    ensures whole { λ r. ⌜ NextGoalIs from at r ⌝ }
     ensures first { λ r. ⌜ restOf from r ≡ rest from at ⌝ }
 {
     let here = at_goal(from, at);
