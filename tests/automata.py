@@ -1,4 +1,4 @@
-#!/usr/bin/env python3
+#!/usr/bin/env -S python3 -I
 """What the inspection program must print for an input, worked out a second way, and compared with what it prints.
 Written from document 01 alone, without sight of the program that it judges or of the other tests.
 
@@ -10,7 +10,12 @@ Part 1 reads and refuses sheets. Part 2 finds the verdict by a search over pairs
 automata. Part 3 finds outcome, settled, used and trace by the document's rows. Part 4 holds 2 and 3 together;
 these two share the node table and matches(), nothing else. The rest makes inputs and compares.
 """
-import functools, random, subprocess, sys
+import sys
+
+if not __debug__:  # it checks itself by assertions
+    sys.exit('tests/automata.py: python3 leaves assertions out (-O or PYTHONOPTIMIZE), so nothing would be checked')
+
+import functools, random, subprocess
 from collections import Counter, namedtuple
 
 NIL, EMPTY, INSTANT, SEQUENCE, CHOICE, REPETITION = range(6)
@@ -418,7 +423,7 @@ def run_program(program, data):
     return done.stdout if done.returncode == 0 else f"{done.stdout}, status {done.returncode}, {done.stderr[-300:]}"
 
 def compare(cases, program, most_shown):
-    """The exit status: 0 exactly if the program prints for every case what it must, and the search decided enough."""
+    """The exit status: 0 exactly if there are cases, the program prints for each what it must, and the search decided enough."""
     tally, searched, differ = Counter(), Counter(), 0
     for name, data, beginning in cases:
         expected, outcome, verdict = judge(data)
@@ -435,8 +440,8 @@ def compare(cases, program, most_shown):
     print(f"{tally.total()} inputs: {tally['included']} included, {tally['refuted']} refuted,",
           f"{tally['no room']} no room (search: {no_room}), {sum(tally[key] for key in refused)} refused ({each});",
           f"{searched[False, 'undecided']} undecided by the search; {differ} differ")
-    # Rows alone would decide what the search does not: more than one in a hundred of those is a failure too.
-    return 1 if differ or 100 * searched[False, "undecided"] > tally.total() else 0
+    # Rows alone would decide what the search does not: more than one in a hundred of those is a failure too. So is no input at all.
+    return 1 if differ or not tally or 100 * searched[False, "undecided"] > tally.total() else 0
 
 if __name__ == "__main__":
     match sys.argv[1:]:

@@ -1,4 +1,4 @@
-#!/usr/bin/env python3
+#!/usr/bin/env -S python3 -I
 """Places, first, last and follow sets of document 01, a second time, for tests.
 
 The rules here are document 01's, and no code is shared with the crates: a node table
@@ -20,11 +20,17 @@ A record is a line of the letter p and hexadecimal digits (numbers big-endian, w
 Bit j of a set is place j. A line that begins with '#' names what follows; the program prints it as
 it is.
 """
-import itertools
-import random
 import sys
 
-sys.dont_write_bytecode = True  # a test run leaves nothing behind
+if not __debug__:  # it checks itself by assertions
+    sys.exit('tests/places.py: python3 leaves assertions out (-O or PYTHONOPTIMIZE), so nothing would be checked')
+
+import itertools
+import os
+import random
+
+sys.dont_write_bytecode, sys.pycache_prefix = True, os.devnull  # a test run leaves nothing behind, and takes nothing that was left
+sys.path.insert(0, os.path.dirname(os.path.realpath(__file__)))  # isolated, python3 does not look there by itself
 import sheets
 from sheets import KINDS, choice, empty, instant, nil, node, repetition, sequence
 
@@ -467,10 +473,12 @@ def random_vectors(seed, count):
 
 
 def traces(seed, count):
+    assert count > 0, 'nothing is looked at'
     pick = random.Random(seed)
     for _ in range(count):
         s = pick.randint(0, 2)
         agree(Side(s, sheets.random_table(pick, s, pick.randint(1, 12))))
+    print(count, 'tables take the traces of their meaning')
 
 
 def main(words):

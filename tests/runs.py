@@ -1,4 +1,4 @@
-#!/usr/bin/env python3
+#!/usr/bin/env -S python3 -I
 """A run and its calls, refusals 14 to 18 among them, of document 01, a second time, for tests.
 
 The rules here are document 01's, and no code is shared with the crates; but this was not written
@@ -44,11 +44,17 @@ table of rows, which has what is lent in every column and no more than 65,536 ro
 A row that nothing wrote is place ee, set eeeeeeeeeeeeeeee, parent and letter eeee; the record is all
 zeros. A line that begins with '#' names what follows; the program prints it as it is.
 """
-import functools
-import random
 import sys
 
-sys.dont_write_bytecode = True  # a test run leaves nothing behind
+if not __debug__:  # it checks itself by assertions
+    sys.exit('tests/runs.py: python3 leaves assertions out (-O or PYTHONOPTIMIZE), so nothing would be checked')
+
+import functools
+import os
+import random
+
+sys.dont_write_bytecode, sys.pycache_prefix = True, os.devnull  # a test run leaves nothing behind, and takes nothing that was left
+sys.path.insert(0, os.path.dirname(os.path.realpath(__file__)))  # isolated, python3 does not look there by itself
 import places
 import sheets
 from places import ANY, D, M, NOT_D, NOT_M, Side
@@ -1271,6 +1277,7 @@ def verdicts(seed, count):
         reached.append(run.outcome)
     for outcome in 1, 2:  # a fair part of each, or the pairs are of no use
         assert 4 * reached.count(outcome) > count, (outcome, reached.count(outcome))
+    print(len(reached), 'pairs have the verdict of derivatives')
 
 
 def main(words):

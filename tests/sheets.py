@@ -1,4 +1,4 @@
-#!/usr/bin/env python3
+#!/usr/bin/env -S python3 -I
 """The effect sheet and refusals 1 to 13 of document 01, a second time, for tests.
 
 Everything here is written from document 01 alone and shares nothing with the crates: a sheet is a
@@ -20,8 +20,12 @@ A record is a line of the letter s and hexadecimal digits (numbers big-endian, w
 A line that begins with '#' names what follows; the program prints it as it is. Entry k of a lent
 table is c0de0000 + k beforehand, and each byte of a lent output is ee.
 """
-import random
 import sys
+
+if not __debug__:  # it checks itself by assertions
+    sys.exit('tests/sheets.py: python3 leaves assertions out (-O or PYTHONOPTIMIZE), so nothing would be checked')
+
+import random
 
 INPUT_ROOM = 65535  # the program reads 131,072 bytes, since the named vectors of all three makers are one input
 LONGEST_SHEET, LONGEST_TABLE = 700, 300  # what a record of the program may ask for

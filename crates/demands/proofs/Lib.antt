@@ -22,3 +22,5 @@ pub mod OneCall
 pub mod Worked
 pub mod Meeting
 pub mod BadVersions
+pub mod BadCalls
+pub mod BadRuns

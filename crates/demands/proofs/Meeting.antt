@@ -19,7 +19,7 @@ use Rattle.demands.specs.Calls.{usedIn, holding, ours}
 use Rattle.demands.specs.Demands.{Answers, ReadTakes, WritePuts, Meets, MeetsSheets}
 use Rattle.demands.proofs.Deciding.{read-refuses, write-refuses, start-refuses, run-refuses, trace-refuses}
 use Rattle.demands.proofs.Included.{included-only-if, goals-reached, counts-reached}
-use Rattle.demands.proofs.Refuting.{refuted-only-with, trace-hands}
+use Rattle.demands.proofs.Refuting.{refuted-only-with, trace-hands, refuted-shown}
 use Rattle.demands.proofs.Closing.{steps-close, start-leaves, rows-entered, idles, goals-differ, rows-stay}
 use Rattle.demands.proofs.Room.{room-and-budget, no-room, budget-ends}
 use Rattle.demands.proofs.Going.{run-accepts, trace-accepts}
@@ -48,6 +48,7 @@ meets =
       included = included-only-if;
       refuted = refuted-only-with;
       hands = trace-hands;
+      shown = refuted-shown;
       start = start-leaves;
       steps = steps-close;
       entered = rows-entered;

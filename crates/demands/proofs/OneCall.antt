@@ -7,9 +7,8 @@ use lib.ListN.{length, replicate, length-replicate}
 use Rattle.goals.specs.Goals.{rowZero}
 use Rattle.goals.specs.Run.{started}
 use Rattle.goals.specs.Refusals.{Given, recordOf, Against, against, startRefusal, Reply, leaves}
-use Rattle.demands.specs.Calls.{Lent, lent, usedIn, holding, RunCall}
+use Rattle.demands.specs.Calls.{Lent, lent, usedIn, holding, RunCall, TraceCall, Starts}
 use Rattle.demands.specs.Demands.{Chain, begun, goes}
-use Rattle.demands.specs.BadVersions.{withRun}
 use Rattle.demands.proofs.Accepting.{start-passes}
 use Rattle.demands.proofs.Calling.{used-holding}
 
@@ -27,12 +26,17 @@ ready-used (suc room) h = refl
 abbrev pub accepted : Reply
 accepted = record { refusal = against 0 0; values = [] }
 
-pub one-call : (runs : RunCall) (g : Given) (least room budget : ℕ) (l′ : Lent) → startRefusal g room ≡ against 0 0 → least ≤ room
-    → runs g (ready room) budget accepted l′ → Chain (withRun runs) g least (usedIn l′) (l′ .held) (0 + budget)
+-- start
+pub start-call : {runs : RunCall} {traces : TraceCall} (g : Given) (least room : ℕ) → startRefusal g room ≡ against 0 0
+    → Chain (record { starts = Starts; runs = runs; traces = traces }) g least (usedIn (holding started (ready room))) (recordOf started) 0
+start-call g least room starts =
+    begun {l = ready room} {l′ = holding started (ready room)} {reply = accepted}
+    (ap (λ (w : Against). leaves w [] (holding started (ready room)) (ready room)) (sym (ap (startRefusal g) (ready-length room) ∙ starts))) refl
+
+-- and run
+pub one-call : (runs : RunCall) {traces : TraceCall} (g : Given) (least room budget : ℕ) (l′ : Lent) → startRefusal g room ≡ against 0 0 → least ≤ room
+    → runs g (ready room) budget accepted l′ → Chain (record { starts = Starts; runs = runs; traces = traces }) g least (usedIn l′) (l′ .held) (0 + budget)
 one-call runs g least room budget l′ starts h r =
-    let l : Lent = holding started (ready room) in
-    goes {rows = ready room .rows} {held = recordOf started}
-    (begun {l = ready room} {l′ = l} {reply = accepted}
-    (ap (λ (w : Against). leaves w [] l (ready room)) (sym (ap (startRefusal g) (ready-length room) ∙ starts))) refl)
+    goes {rows = ready room .rows} {held = recordOf started} (start-call g least room starts)
     (ready-used room (start-passes g room .0 starts .1) ∙ sym (used-holding started (ready room)))
     (rw (ready-length room) h) r refl

@@ -6,15 +6,17 @@ use mathlib.Core.Bool.{Bool, true, false}
 use mathlib.Core.List.{List, [], _∷_, _++_}
 use native.Mathlib.Omega.{arith}
 use lib.Dec.{eqb}
-use lib.ListN.{length}
+use lib.ListN.{length, take, drop}
+use lib.Seq.{take-append-seam, drop-append-seam}
 use borrow.Author.Tests.{eqb-true, eqb-false}
 use Rattle.effect.specs.Refusals.{front}
+use Rattle.effect.proofs.Front.{length-front}
 use Rattle.goals.specs.declared.Row.{Row}
 use Rattle.goals.specs.Run.{wordIn, traceOf}
-use Rattle.goals.specs.Refusals.{Given, leftOf, rightOf, traceRefusal}
-use Rattle.demands.specs.Calls.{usedIn, ours}
-use Rattle.demands.specs.Demands.{rowOf, RefutedOnlyWith, TraceHands}
-use Rattle.demands.proofs.Accepting.{accepted-leaves}
+use Rattle.goals.specs.Refusals.{Given, leftOf, rightOf, against, traceRefusal, Reply}
+use Rattle.demands.specs.Calls.{Lent, lent, usedIn, Traces, Accepted, ours}
+use Rattle.demands.specs.Demands.{rowOf, LeftTrace, RightTrace, RefutedOnlyWith, TraceHands, RefutedShown}
+use Rattle.demands.proofs.Accepting.{trace-passes, accepted-leaves}
 use Rattle.demands.proofs.Reaching.{left-signals, ReachesBy, reaches-start, reaches-step, bad-refutes}
 use Rattle.demands.proofs.Keeping.{Kept}
 use Rattle.demands.proofs.Standing.{chain-standing}
@@ -52,8 +54,35 @@ refuted-only-with g least sum used held c e =
     bad-refutes g (s .both) (traceOf used (held .settled)) (rowOf used (held .settled) .place) (rowOf used (held .settled) .set)
     (row-reached g used (s .kept) (held .settled) (s .undone (λ (q : held .outcome ≡ 1). omega (arith, q, e)))) (s .refuted e)
 
+-- what an accepted trace call says and leaves
+module _ (g : Given) (l : Lent) (out out′ : List ℕ) (reply : Reply) (h : Traces g l out reply out′) (a : Accepted reply) where
+  abbrev word : List ℕ
+  word = traceOf (usedIn l) (l .held .settled)
+
+  left-by : (traceRefusal g (length (l .rows)) (usedIn l) (l .held) (length out) ≡ against 0 0) × (out′ ≡ front word out) × (reply .values ≡ length word ∷ [])
+  left-by = accepted-leaves reply _ (length word ∷ []) (front word out) out out′ h a
+
+  -- 17 and 18 do not apply
+  passed : (l .held .outcome ≡ 2) × (length word ≤ length out)
+  passed = let p = trace-passes g (length (l .rows)) (usedIn l) (l .held) (length out) .0 (left-by .0) in (p .2, p .3)
+
 pub trace-hands : TraceHands ours
-trace-hands g l out out′ reply h a =
-    let word = traceOf (usedIn l) (l .held .settled) in
-    let u = accepted-leaves reply (traceRefusal g (length (l .rows)) (usedIn l) (l .held) (length out)) (length word ∷ []) (front word out) out out′ h a in
-    (u .2, u .1)
+trace-hands g l out out′ reply h a = let u = left-by g l out out′ reply h a in (u .2, u .1)
+
+-- a trace call is accepted of a refuted run alone, and the front of the buffer is that trace
+pub refuted-shown : RefutedShown ours
+refuted-shown g least sum used held c rows out out′ reply begins h a =
+    let (values, buffer) = trace-hands g (lent rows held) out out′ reply h a in
+    let w = traceOf (take (held .used) rows) (held .settled) in
+    let (two, fits) = passed g (lent rows held) out out′ reply h a in
+    let (of-left, of-right) = refuted-only-with g least sum used held c two in
+    let is : take (length w) out′ ≡ traceOf used (held .settled) =
+    ap (take (length w)) buffer ∙ take-append-seam w (drop (length w) out) ∙ ap (λ (u : List Row). traceOf u (held .settled)) begins in (
+      length w,
+      values,
+      fits,
+      ap length buffer ∙ length-front w out fits,
+      subst (LeftTrace g) (sym is) of-left,
+      (λ t. of-right (subst (RightTrace g) is t)),
+      ap (drop (length w)) buffer ∙ drop-append-seam w (drop (length w) out),
+    )

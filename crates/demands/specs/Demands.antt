@@ -180,6 +180,20 @@ TraceHands calls =
     (g : Given) (l : Lent) (out out′ : List ℕ) (reply : Reply) → calls .traces g l out reply out′ → Accepted reply
     → let w = traceOf (usedIn l) (l .held .settled) in (reply .values ≡ length w ∷ []) × (out′ ≡ front w out)
 
+-- So, as a caller sees it: an accepted trace call on a run's rows answers n, and the first n bytes of the buffer are a trace of the left
+-- that the right lacks; the others stay.
+abbrev pub RefutedShown : Calls → Type 0
+RefutedShown calls =
+    EachState calls (λ g used held. (rows : List Row) (out out′ : List ℕ) (reply : Reply)
+    → take (held .used) rows ≡ used → calls .traces g (lent rows held) out reply out′ → Accepted reply
+    → (n : ℕ)
+    × (reply .values ≡ n ∷ [])
+    × (n ≤ length out)
+    × (length out′ ≡ length out)
+    × LeftTrace g (take n out′)
+    × (RightTrace g (take n out′) → ⊥)
+    × (drop n out′ ≡ drop n out))
+
 -- ---- Demand 3. "Start writes row 0 (place 0, set {0}, parent 0, letter 0), settled 0, used 1, outcome 0; the other rows stay."
 abbrev pub StartLeaves : Calls → Type 0
 StartLeaves calls =
@@ -311,6 +325,7 @@ pub record Meets (calls : Calls) : Type 0 where
   pub included : IncludedOnlyIf calls
   pub refuted : RefutedOnlyWith calls
   pub hands : TraceHands calls
+  pub shown : RefutedShown calls
   -- 3
   pub start : StartLeaves calls
   pub steps : StepsClose calls
