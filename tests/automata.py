@@ -389,6 +389,9 @@ def edges():
     yield "s = 8", both(8, (INSTANT, 0xAB, 0x54), NOTHING), "refuted\nsettled 1 of 2 rows\ntrace ab\n"
     yield "all rows", both(3, without_end(chain(D, 33)), repeat(chain(FREE, 31))), "included\nsettled 1024 of 1024"
     yield "one row too many", both(1, without_end(FREE), recalls(D, 9)), "no room\n"
+    # m = 1 and k = 10: 1 + m * 2^k is 1,025, the least with which there can be no room.
+    yield "one goal too many", both(2, without_end(FREE), (SEQUENCE, repeat((INSTANT, 2, 0)), (SEQUENCE, D, chain(FREE, 8)))), (
+        "no room\nsettled 512 of 1024 rows\n")
     yield "long trace", both(0, repeat(chain(FREE, 31)), not_multiples(FREE, (3, 11))), (
         "refuted\nsettled 1023 of 1024 rows\ntrace" + 1023 * " 00" + "\n")
     largest = both(0, chain(NO_LETTER, 128), chain(NO_LETTER, 128))

@@ -20,8 +20,8 @@ use Rattle.columns.specs.Core.{Fits}
 use Rattle.columns.proofs.Laws.{put-put, rows-put, fits-put}
 use Rattle.demands.proofs.Accepting.{accepted-leaves}
 use Rattle.verdict.specs.Core.{Decides, Ended}
-use Rattle.verdict.specs.Program.{endedOn}
-use Rattle.verdict.proofs.Running.{end, few, started-passes, run-ends, end-some, end-fits, ended-fits}
+use Rattle.program.specs.Program.{endedOn}
+use Rattle.program.proofs.Running.{end, few, started-passes, run-ends, end-some, end-fits, ended-fits}
 
 -- ---- answers
 -- the record of an accepted answer is known by its values

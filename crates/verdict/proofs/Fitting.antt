@@ -6,7 +6,8 @@ use native.Mathlib.Omega.{arith}
 use lib.ListN.{length, take, drop, replicate, length-append}
 use lib.Seq.{take-append-seam}
 use Rattle.verdict.specs.declared.Lines.{Lines}
-use Rattle.verdict.specs.Program.{linesOf, Prints}
+use Rattle.program.specs.Program.{linesOf}
+use Rattle.verdict.specs.Prints.{Prints}
 
 pub lines-fit : (input : List ℕ) (r : Lines) → Prints input r → r .len ≤ length (r .bytes)
 lines-fit input r p =

@@ -10,7 +10,7 @@ use lib.Seq.{take-at, length-take-le}
 use borrow.Author.Tests.{lt-ltb, le-ltb, ltb-true, ltb-false}
 use Rattle.effect.specs.Refusals.{front}
 use Rattle.effect.proofs.Front.{front-next, front-front, front-taken}
-use Rattle.verdict.specs.Lines.{ascii, digit, decimalIn, decimal, letter, letters, outcomeLine, countsLine, sideText}
+use Rattle.program.specs.Lines.{ascii, digit, decimalIn, decimal, letter, letters, outcomeLine, countsLine, sideText}
 use Rattle.verdict.specs.Core.{Puts}
 
 -- what stands before the place behind a text

@@ -1,10 +1,8 @@
 pub mod Laws
-pub mod Running
 pub mod Deciding
 pub mod Tracing
 pub mod Parting
 pub mod Printing
 pub mod Fitting
 pub mod Meaning
-pub mod Worked
 pub mod Unique

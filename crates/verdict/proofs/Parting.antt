@@ -1,7 +1,7 @@
 -- The input's parting into two sheets, what the reader says of each, and the lines that follow.
 use Prim.Native.Nat.{ℕ, _-_, min}
 use mathlib.Core.Path.{_≡_, refl, sym, ap, ap₂, _∙_}
-use mathlib.Core.Bool.{Bool, true, false, cond, not}
+use mathlib.Core.Bool.{Bool, true, false, cond}
 use mathlib.Core.List.{List, [], _∷_}
 use native.Mathlib.Nat.{le-refl, le-of-lt, min-eq-left, min-eq-right}
 use native.Mathlib.Omega.{arith}
@@ -9,18 +9,16 @@ use lib.Dec.{eqb, ltb}
 use lib.ListN.{length, getD, take, drop, length-drop, drop-of-length-le}
 use lib.Seq.{take-all, take-at, take-length}
 use borrow.Author.Tests.{ltb-true, ltb-false}
-use Rattle.effect.specs.Node.{decodings}
-use Rattle.effect.specs.Refusals.{rule, sideRefusal, Answer, front}
-use Rattle.effect.proofs.Laws.{rule-none}
+use Rattle.effect.specs.Refusals.{Answer, front}
 use Rattle.sheet.specs.declared.Reading.{Reading}
 use Rattle.sheet.specs.declared.Reading.the-variants as reading-variants
 use Rattle.effect.specs.declared.Refusal.{Refusal}
 use Rattle.sheet.specs.Sheet.{signalsIn, countIn, nodesIn, readRefusal, Left, exit, left, reading, readOf, Reads}
-use Rattle.sheet.proofs.Header.{count-lt, length-nodes}
-use Rattle.sheet.proofs.Accepted.{read-none, side-none}
-use Rattle.goals.specs.Refusals.{Against, against, first, startRefusal}
-use Rattle.verdict.specs.Lines.{refusedLine, endedLines}
-use Rattle.verdict.specs.Program.{leftSheet, rightSheet, sidesIn, refusalIn, endedOn, linesOf}
+use Rattle.sheet.proofs.Header.{length-nodes}
+use Rattle.goals.specs.Refusals.{Against, against}
+use Rattle.program.specs.Lines.{refusedLine, endedLines}
+use Rattle.program.specs.Program.{leftSheet, rightSheet, sidesIn, refusalIn, endedOn, linesOf}
+use Rattle.program.proofs.Accepted.{skip, here, start-is}
 use Rattle.verdict.specs.Core.{comparisonLines}
 
 -- no more bytes than there are
@@ -80,27 +78,6 @@ readable sheet lent lent′ r s n e h =
       nodes = ap₂ take (value 1) (ap (λ (x : Left). x .lent) whole) ∙ take-at (nodesIn sheet) _ (countIn sheet) (length-nodes sheet);
     }
 
--- an accepted sheet is an accepted side
-side-accepted : (sheet : List ℕ) → readRefusal sheet 255 ≡ 0 → sideRefusal (signalsIn sheet) (decodings (nodesIn sheet)) ≡ 0
-side-accepted sheet h =
-    let z = read-none sheet 255 .0 h in
-    side-none (signalsIn sheet) (nodesIn sheet) .1
-    record {
-      signals = z .0 .signals;
-      some = λ e. z .0 .some (sym (length-nodes sheet) ∙ e);
-      few = omega (arith, count-lt sheet, length-nodes sheet);
-      table = z .1;
-    }
-
--- the first of the rules, where the one before is none, and where it is one
-pub skip : (side n : ℕ) (rest : List Against) → n ≡ 0 → first (against side n ∷ rest) ≡ first rest
-unfolding first
-skip side n rest e = ap (λ (k : ℕ). cond (eqb k 0) (first rest) (against side k)) e
-
-pub here : (side n : ℕ) (rest : List Against) → eqb n 0 ≡ false → first (against side n ∷ rest) ≡ against side n
-unfolding first
-here side n rest e = ap (λ (b : Bool). cond b (first rest) (against side n)) e
-
 -- the left sheet refused
 refused-is : (input : List ℕ) (why : Against) → refusalIn input ≡ why → eqb (why .number) 0 ≡ false → refusedLine why ≡ linesOf input
 unfolding linesOf
@@ -119,18 +96,7 @@ pub lines-right :
 unfolding refusalIn
 lines-right input n l e h = ap (λ (k : ℕ). refusedLine (against 2 k)) e ∙ refused-is input _ (skip 1 _ _ l ∙ here 2 _ _ h) h
 
--- neither: what start refuses is what the program refuses
-no-fifteen : (n : ℕ) → first (against 3 n ∷ against 3 (rule 15 (eqb 1024 0)) ∷ []) ≡ first (against 3 n ∷ [])
-unfolding first
-no-fifteen n = ap (λ (k : ℕ). first (against 3 n ∷ against 3 k ∷ [])) (rule-none 14 (eqb 1024 0) .1 refl)
-
-pub start-is : (input : List ℕ) → readRefusal (leftSheet input) 255 ≡ 0 → readRefusal (rightSheet input) 255 ≡ 0 → startRefusal (sidesIn input) 1024 ≡ refusalIn input
-unfolding refusalIn startRefusal
-start-is input l r =
-    skip 1 _ _ (side-accepted (leftSheet input) l) ∙ skip 2 _ _ (side-accepted (rightSheet input) r)
-    ∙ no-fifteen (rule 14 (not (eqb (sidesIn input .ls) (sidesIn input .rs))))
-    ∙ sym (skip 1 _ _ l ∙ skip 2 _ _ r)
-
+-- neither
 pub lines-both : (input : List ℕ) → readRefusal (leftSheet input) 255 ≡ 0 → readRefusal (rightSheet input) 255 ≡ 0 → comparisonLines (sidesIn input) ≡ linesOf input
 unfolding linesOf
 lines-both input l r = ap (λ (w : Against). cond (eqb (w .number) 0) (endedLines (endedOn (sidesIn input))) (refusedLine w)) (start-is input l r)

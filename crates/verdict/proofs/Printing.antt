@@ -15,11 +15,11 @@ use Rattle.columns.specs.declared.Tracing.{Tracing}
 use Rattle.columns.specs.declared.Tracing.the-variants as tracing-variants
 use Rattle.columns.proofs.Tables as core
 use Rattle.columns.specs.Calls.{Columns, tracing}
-use Rattle.verdict.specs.Lines.{outcomeLine, countsLine, traceLine, refusedLine, endedLines}
-use Rattle.verdict.specs.Program.{endedOn}
-use Rattle.verdict.specs.Core.{Puts, Ended, traceIn, comparisonLines}
+use Rattle.program.specs.Lines.{outcomeLine, countsLine, traceLine, refusedLine, endedLines}
+use Rattle.program.specs.Program.{endedOn, traceIn}
+use Rattle.verdict.specs.Core.{Puts, Ended, comparisonLines}
 use Rattle.verdict.proofs.Laws.{puts-both, puts-as}
-use Rattle.verdict.proofs.Running.{ended-fits, ended-settled}
+use Rattle.program.proofs.Running.{ended-fits, ended-settled}
 use Rattle.verdict.proofs.Tracing.{trace-ended}
 
 -- counts that the record of an ended run has

@@ -19,9 +19,9 @@ use Rattle.columns.proofs.Tables as core
 use Rattle.columns.specs.Calls.{Columns, lentIn, stateOf, tracing}
 use Rattle.columns.proofs.Budget.{state-held}
 use Rattle.demands.proofs.Accepting.{trace-passes, accepted-leaves}
-use Rattle.verdict.specs.Program.{endedOn}
-use Rattle.verdict.specs.Core.{Ended, traceIn}
-use Rattle.verdict.proofs.Running.{few, both, end-possible, ended-settled}
+use Rattle.program.specs.Program.{endedOn, traceIn}
+use Rattle.verdict.specs.Core.{Ended}
+use Rattle.program.proofs.Running.{few, both, end-possible, ended-settled}
 
 -- f rounds give at most f letters
 word-short : (rows : List Row) (f i : ℕ) → length (wordIn rows f i) ≤ f

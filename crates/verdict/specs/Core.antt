@@ -9,12 +9,11 @@ use Rattle.effect.specs.Refusals.{front}
 use Rattle.sheet.specs.declared.Reading.{Reading}
 use Rattle.sheet.specs.Sheet.{reading}
 use Rattle.goals.specs.declared.Run.{Run}
-use Rattle.goals.specs.Run.{traceOf}
 use Rattle.goals.specs.Refusals.{Given, recordOf, startRefusal, against, leaves, exit, valuesOf}
 use Rattle.columns.specs.declared.Called.{Called}
 use Rattle.columns.specs.Calls.{Columns, called, put, lentIn}
-use Rattle.verdict.specs.Lines.{refusedLine, endedLines}
-use Rattle.verdict.specs.Program.{endedOn}
+use Rattle.program.specs.Lines.{refusedLine, endedLines}
+use Rattle.program.specs.Program.{endedOn}
 
 -- a text put in the output from place `at` on, behind what stands there already, and the place behind it answered
 pub record Puts (text : List ℕ) (at : ℕ) (before : List ℕ) (r : ℕ) (after : List ℕ) : Type 0 where
@@ -33,10 +32,6 @@ pub record Ended (g : Given) (c : Columns) (r : Run) : Type 0 where
   pub lent : lentIn 1024 c ≡ 1024
   pub columns : c ≡ put (endedOn g .rows) c
   pub now : r ≡ recordOf (endedOn g)
-
--- the trace of the run that ended
-abbrev pub traceIn : Given → List ℕ
-traceIn g = traceOf (endedOn g .rows) (endedOn g .settled)
 
 -- the lines of a comparison of two node tables
 abbrev pub comparisonLines : Given → List ℕ

@@ -1,3 +1,2 @@
-pub mod Lines
-pub mod Program
+pub mod Prints
 pub mod Core

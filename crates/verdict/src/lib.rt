@@ -15,9 +15,10 @@ ghost use Prim.Native.Nat.{_+_, _*_, _<_, _≤_};
 ghost use lib.ListN.{length};
 ghost use Rattle.goals.specs.Refusals.{given, sideNumber, against, againstOf};
 ghost use Rattle.columns.specs.Calls.{here, before, after, lentIn};
-ghost use Rattle.verdict.specs.Lines.{digit, decimal, letter, letters, outcomeLine, countsLine, traceLine, sideText, refusedLine, endedLines};
-ghost use Rattle.verdict.specs.Program.{endedOn, linesOf, Prints};
-ghost use Rattle.verdict.specs.Core.{Puts, Decides, Ended, traceIn, comparisonLines, readingNumber};
+ghost use Rattle.program.specs.Lines.{digit, decimal, letter, letters, outcomeLine, countsLine, traceLine, sideText, refusedLine, endedLines};
+ghost use Rattle.program.specs.Program.{endedOn, traceIn, linesOf};
+ghost use Rattle.verdict.specs.Prints.{Prints};
+ghost use Rattle.verdict.specs.Core.{Puts, Decides, Ended, comparisonLines, readingNumber};
 
 // How many rows a run has room for, and how many steps it gets. As many steps as rows end any run.
 const ROOM: usize = 1024;

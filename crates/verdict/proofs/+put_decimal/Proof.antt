@@ -7,7 +7,7 @@ use lib.ListN.{length, set}
 use borrow.Author.Needs.{needs}
 use borrow.Fn.Kinds.{In}
 use borrow.Fn.PlainCycle.{Measures, is, falls, and}
-use Rattle.verdict.specs.Lines.{digit, decimal}
+use Rattle.program.specs.Lines.{digit, decimal}
 use Rattle.verdict.specs.Core.{Puts}
 use Rattle.verdict.proofs.Laws.{puts-both, puts-byte, puts-as, decimal-one, decimal-more, length-decimal, some-digit}
 use Rattle.verdict.proofs.put_decimal.Reads as put-decimal

@@ -1,7 +1,7 @@
 -- `verdict::digit_of`: the text of the definition, byte for byte.
 use mathlib.Core.Path.{refl}
 use borrow.Author.Needs.{needs}
-use Rattle.verdict.specs.Lines.{ascii, digit}
+use Rattle.program.specs.Lines.{ascii, digit}
 use Rattle.verdict.proofs.digit_of.Statement.{statement}
 use Rattle.verdict.proofs.digit_of.Tie as tie
 

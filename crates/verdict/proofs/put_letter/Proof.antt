@@ -5,7 +5,7 @@ use mathlib.Core.List.{List, [], _∷_}
 use native.Mathlib.Omega.{arith}
 use lib.ListN.{length, set, length-set}
 use borrow.Author.Needs.{needs}
-use Rattle.verdict.specs.Lines.{ascii, letter}
+use Rattle.program.specs.Lines.{ascii, letter}
 use Rattle.verdict.specs.Core.{Puts}
 use Rattle.verdict.proofs.Laws.{puts-both, puts-byte, puts-as}
 use Rattle.verdict.proofs.put_letter.Statement.{statement}

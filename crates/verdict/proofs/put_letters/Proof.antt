@@ -7,7 +7,7 @@ use native.Mathlib.Numerals.{add-one}
 use lib.ListN.{length, getD, take}
 use lib.Seq.{take-suc, take-all}
 use borrow.Author.Needs.{needs}
-use Rattle.verdict.specs.Lines.{ascii, letter, letters}
+use Rattle.program.specs.Lines.{ascii, letter, letters}
 use Rattle.verdict.specs.Core.{Puts}
 use Rattle.verdict.proofs.Laws.{puts-both, puts-nothing, puts-as}
 use Rattle.verdict.proofs.put_letters.Statement.{statement}

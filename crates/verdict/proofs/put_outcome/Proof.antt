@@ -1,5 +1,5 @@
 -- `verdict::put_outcome`: each case is the definition's.
-use Rattle.verdict.specs.Lines.{ascii, outcomeLine}
+use Rattle.program.specs.Lines.{ascii, outcomeLine}
 use borrow.Author.Tests.{eq-eqb, ne-eqb}
 use borrow.Author.Needs.{needs}
 use Rattle.verdict.proofs.put_outcome.Statement.{statement}

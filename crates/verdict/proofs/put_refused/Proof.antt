@@ -3,7 +3,7 @@ use Prim.Native.Nat.{_≤_}
 use native.Mathlib.Omega.{arith}
 use lib.ListN.{length}
 use Rattle.goals.specs.Refusals.{sideNumber}
-use Rattle.verdict.specs.Lines.{ascii, refusedLine}
+use Rattle.program.specs.Lines.{ascii, refusedLine}
 use Rattle.verdict.proofs.Laws.{puts-both, four-digits, length-side}
 use borrow.Author.Needs.{needs}
 use Rattle.verdict.proofs.put_refused.Statement.{statement}

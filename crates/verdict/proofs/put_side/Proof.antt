@@ -4,7 +4,7 @@ use mathlib.Core.Path.{_≡_, sym, subst}
 use mathlib.Core.List.{List}
 use Rattle.goals.specs.declared.Which.{Which}
 use Rattle.goals.specs.Refusals.{sideNumber}
-use Rattle.verdict.specs.Lines.{ascii, sideText}
+use Rattle.program.specs.Lines.{ascii, sideText}
 use Rattle.verdict.specs.Core.{Puts}
 use borrow.Author.Needs.{needs}
 use Rattle.verdict.proofs.put_side.Statement.{statement}

@@ -2,7 +2,7 @@
 use Prim.Native.Nat.{_≤_}
 use native.Mathlib.Omega.{arith}
 use lib.ListN.{length}
-use Rattle.verdict.specs.Lines.{ascii, traceLine}
+use Rattle.program.specs.Lines.{ascii, traceLine}
 use Rattle.verdict.proofs.Laws.{puts-both, length-letters}
 use borrow.Author.Needs.{needs}
 use Rattle.verdict.proofs.put_trace.Statement.{statement}

@@ -7,7 +7,7 @@ use Rattle.goals.specs.Refusals.{Given, given}
 use Rattle.columns.specs.declared.Tracing.{Tracing}
 use Rattle.columns.specs.Calls.{columns, tracing}
 use Rattle.columns.proofs.Tables.{TracesOf, traces-of}
-use Rattle.verdict.specs.Lines.{traceLine}
+use Rattle.program.specs.Lines.{traceLine}
 use Rattle.verdict.proofs.Laws.{puts-as}
 use Rattle.verdict.proofs.Printing.{Lettered, trace-lettered, never-refused}
 use borrow.Author.Needs.{needs}

@@ -2,7 +2,7 @@
 use Prim.Native.Nat.{ℕ}
 use mathlib.Core.Path.{ap}
 use Rattle.goals.specs.Refusals.{sideNumber, against}
-use Rattle.verdict.specs.Lines.{refusedLine}
+use Rattle.program.specs.Lines.{refusedLine}
 use Rattle.verdict.proofs.Laws.{puts-as}
 use borrow.Author.Needs.{needs}
 use Rattle.verdict.proofs.put_unread.Statement.{statement}

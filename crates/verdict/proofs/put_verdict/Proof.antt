@@ -9,7 +9,7 @@ use lib.Seq.{length-take-le}
 use Rattle.sheet.specs.Sheet.{sheetLength, countIn, reading, Reads}
 use Rattle.sheet.proofs.Header.{count-lt}
 use Rattle.goals.specs.Refusals.{given, sideNumber}
-use Rattle.verdict.specs.Program.{leftSheet, rightSheet}
+use Rattle.program.specs.Program.{leftSheet, rightSheet}
 use Rattle.verdict.specs.Core.{comparisonLines}
 use Rattle.verdict.proofs.Laws.{puts-as}
 use Rattle.verdict.proofs.Parting.{part-left, part-right, part-rest, unread, Readable, readable, lines-left, lines-right, lines-both}

@@ -5,7 +5,8 @@ use mathlib.Core.List.{List}
 use native.Mathlib.Omega.{arith}
 use lib.ListN.{length, replicate}
 use borrow.Author.Needs.{needs}
-use Rattle.verdict.specs.Program.{linesOf, Prints}
+use Rattle.program.specs.Program.{linesOf}
+use Rattle.verdict.specs.Prints.{Prints}
 use Rattle.verdict.specs.Core.{Puts}
 use Rattle.verdict.proofs.verdict.Statement.{statement}
 use Rattle.verdict.proofs.verdict.Tie as tie

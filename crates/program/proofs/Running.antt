@@ -1,18 +1,20 @@
 -- The run of the program: start and one run call, with as many steps as there is room for rows, which end it. It is a chain of calls, so what is
 -- demanded of one holds of it.
-use Prim.Native.Nat.{ℕ, _+_, _≤_}
+use Prim.Native.Nat.{ℕ, _+_, _≤_, _<_}
 use mathlib.Core.Path.{_≡_, refl, sym, ap, ap₂, subst, _∙_}
-use mathlib.Core.Bool.{false}
-use mathlib.Core.Logic.{_⊎_, _≢_}
+use mathlib.Core.Bool.{Bool, true, false}
+use mathlib.Core.Logic.{_⊎_, inl, _≢_}
 use mathlib.Core.List.{List, []}
-use native.Mathlib.Nat.{le-trans}
+use native.Mathlib.Nat.{le-refl, le-trans}
 use native.Mathlib.Omega.{arith}
+use lib.Dec.{ltb}
 use lib.ListN.{length}
+use borrow.Author.Tests.{ltb-true, ltb-false}
 use Rattle.goals.specs.declared.Row.{Row}
 use Rattle.goals.specs.Run.{State, started, run}
 use Rattle.goals.specs.Refusals.{Given, leftOf, rightOf, roomOf, recordOf, impossibleFor, Against, against, startRefusal, runRefusal, leaves, runAfter}
 use Rattle.demands.specs.Calls.{Lent, usedIn, holding, Runs, ours}
-use Rattle.demands.specs.Demands.{LeftTrace, RightTrace, Chain}
+use Rattle.demands.specs.Demands.{LeftTrace, RightTrace, most, Chain}
 use Rattle.demands.proofs.Both.{Both}
 use Rattle.demands.proofs.Possible.{possible-iff}
 use Rattle.demands.proofs.Accepting.{start-passes, run-passes}
@@ -20,11 +22,10 @@ use Rattle.demands.proofs.Calling.{after, used-holding}
 use Rattle.demands.proofs.Standing.{chain-standing}
 use Rattle.demands.proofs.Included.{included-only-if}
 use Rattle.demands.proofs.Refuting.{refuted-only-with}
-use Rattle.demands.proofs.Room.{budget-ends}
+use Rattle.demands.proofs.Room.{room-and-budget, no-room, budget-ends}
 use Rattle.demands.proofs.Going.{PossibleFor, ran-possible-after}
 use Rattle.demands.proofs.OneCall.{ready, ready-length, ready-used, accepted, one-call}
-use Rattle.verdict.specs.Program.{endedOn}
-use Rattle.verdict.specs.Core.{traceIn}
+use Rattle.program.specs.Program.{endedOn, traceIn}
 
 -- ---- in any room that start accepts: the program's rows are too many to be written out
 module _ (g : Given) (room : ℕ) (small : room ≤ 65535) (starts : startRefusal g room ≡ against 0 0) where
@@ -84,11 +85,12 @@ module _ (g : Given) (room : ℕ) (small : room ≤ 65535) (starts : startRefusa
       (sym (ap₂ (λ (n : ℕ) (rows : List Row). runRefusal g n rows (recordOf started)) (ready-length room) used ∙ started-passes))
       (sym after-is)
 
-  pub end-chain : Chain ours g room (end .rows) (recordOf end) room
-  end-chain =
+  -- the chain of the two calls, lent at least any number of rows that the room has
+  pub end-chain : (least : ℕ) → least ≤ room → Chain ours g least (end .rows) (recordOf end) room
+  end-chain least h =
       let sum : 0 + room ≡ room = omega arith in
-      subst (λ (rows : List Row). Chain ours g room rows (recordOf end) room) (used-holding end l)
-      (subst (Chain ours g room (usedIn (holding end l)) (recordOf end)) sum (one-call Runs g room room room (holding end l) starts (omega arith) runs))
+      subst (λ (rows : List Row). Chain ours g least rows (recordOf end) room) (used-holding end l)
+      (subst (Chain ours g least (usedIn (holding end l)) (recordOf end)) sum (one-call Runs g least room room (holding end l) starts h runs))
 
   pub end-outcome : (end .outcome ≡ 1) ⊎ ((end .outcome ≡ 2) ⊎ (end .outcome ≡ 3))
   end-outcome = budget-ends g l (holding end l) room accepted runs refl (omega (arith, ap roomOf (ready-length room), room-is))
@@ -106,13 +108,29 @@ module _ (g : Given) (room : ℕ) (small : room ≤ 65535) (starts : startRefusa
       (subst (λ (n : ℕ). PossibleFor g n (end .rows) (recordOf end)) (sym room-is) end-is-possible)
 
   pub end-some : 1 ≤ length (end .rows)
-  end-some = chain-standing g room room (end .rows) (recordOf end) end-chain .kept .some
+  end-some = chain-standing g room room (end .rows) (recordOf end) (end-chain room (le-refl room)) .kept .some
 
   pub end-fits : length (end .rows) ≤ room
   end-fits = end-is-possible .within
 
   pub end-settled : end .settled ≤ room
   end-settled = le-trans (end-is-possible .settled) end-fits
+
+  -- out of room: every row is used,
+  pub end-filled : end .outcome ≡ 3 → length (end .rows) ≡ room
+  end-filled e =
+      let n : room ≢ 0 = some in
+      no-room g l (holding end l) room accepted runs refl (inl refl) (omega arith) .0 e .3 ∙ ap roomOf (ready-length room) ∙ room-is
+
+  -- and there can be more goals than rows
+  pub end-outgrown : end .outcome ≡ 3 → room < most g
+  end-outgrown e = by (ltb room (most g)) refl
+    where
+      by : (b : Bool) → ltb room (most g) ≡ b → room < most g
+      by true q = ltb-true _ _ q
+      by false q =
+          let fits : most g ≤ room = ltb-false _ _ q in
+          absurd (room-and-budget g room (end .rows) (recordOf end) (le-trans fits small) (end-chain (most g) fits) .0 e)
 
 -- ---- in the program's room
 pub few : _≤_ 1024 65535
@@ -121,7 +139,7 @@ few = omega arith
 module _ (g : Given) (starts : startRefusal g 1024 ≡ against 0 0) where
   -- start, and a run call of budget 1,024
   pub ended-chain : Chain ours g 1024 (endedOn g .rows) (recordOf (endedOn g)) 1024
-  ended-chain = end-chain g 1024 few starts
+  ended-chain = end-chain g 1024 few starts 1024 (le-refl 1024)
 
   -- the run has ended: included, refuted or no room
   pub ended-outcome : (endedOn g .outcome ≡ 1) ⊎ ((endedOn g .outcome ≡ 2) ⊎ (endedOn g .outcome ≡ 3))
@@ -141,3 +159,10 @@ module _ (g : Given) (starts : startRefusal g 1024 ≡ against 0 0) where
   -- refuted: its trace is one of the left and none of the right
   pub refuted : endedOn g .outcome ≡ 2 → LeftTrace g (traceIn g) × (RightTrace g (traceIn g) → ⊥)
   refuted = refuted-only-with g 1024 1024 (endedOn g .rows) (recordOf (endedOn g)) ended-chain
+
+  -- no room: all rows are used, and 1 + m × 2^k is above their number
+  pub filled : endedOn g .outcome ≡ 3 → length (endedOn g .rows) ≡ 1024
+  filled = end-filled g 1024 few starts
+
+  pub outgrown : endedOn g .outcome ≡ 3 → 1024 < most g
+  outgrown = end-outgrown g 1024 few starts

@@ -1,16 +1,14 @@
 -- "The program": from the bytes of the input to the bytes of the output.
 use Prim.Native.Nat.{ℕ}
-use mathlib.Core.Path.{_≡_}
 use mathlib.Core.Bool.{cond, not}
 use mathlib.Core.List.{List, [], _∷_}
 use lib.Dec.{eqb}
-use lib.ListN.{length, take, drop, replicate}
-use Rattle.effect.specs.Refusals.{rule, front}
+use lib.ListN.{take, drop}
+use Rattle.effect.specs.Refusals.{rule}
 use Rattle.sheet.specs.Sheet.{sheetLength, signalsIn, countIn, nodesIn, readRefusal}
-use Rattle.goals.specs.Run.{State, started, run}
+use Rattle.goals.specs.Run.{State, started, run, traceOf}
 use Rattle.goals.specs.Refusals.{Given, given, leftOf, rightOf, Against, against, first}
-use Rattle.verdict.specs.declared.Lines.{Lines}
-use Rattle.verdict.specs.Lines.{refusedLine, endedLines}
+use Rattle.program.specs.Lines.{refusedLine, endedLines}
 
 -- "the left sheet, whose header gives its length, then all the rest as the right"
 abbrev pub leftSheet : List ℕ → List ℕ
@@ -43,10 +41,10 @@ room = 1024
 abbrev pub endedOn : Given → State
 endedOn g = let steps = room in run (leftOf g) (rightOf g) room steps started
 
+-- the trace of the run that ended
+abbrev pub traceIn : Given → List ℕ
+traceIn g = traceOf (endedOn g .rows) (endedOn g .settled)
+
 -- all that is printed
 unfoldable pub linesOf : List ℕ → List ℕ
 linesOf input = cond (eqb (refusalIn input .number) 0) (endedLines (endedOn (sidesIn input))) (refusedLine (refusalIn input))
-
--- the promise of `verdict`: the lines at the front of the bytes, zeros behind them, and how many there are
-abbrev pub Prints : List ℕ → Lines → Type 0
-Prints input r = r ≡ record { bytes = front (linesOf input) (replicate 4096 0); len = length (linesOf input) }

@@ -1,0 +1,5 @@
+pub mod Running
+pub mod Accepted
+pub mod Meaning
+pub mod Worked
+pub mod BadPrograms

@@ -1,0 +1,4 @@
+pub mod Lines
+pub mod Program
+pub mod Meaning
+pub mod BadPrograms
