@@ -325,7 +325,7 @@ pub record Meets (calls : Calls) : Type 0 where
   pub included : IncludedOnlyIf calls
   pub refuted : RefutedOnlyWith calls
   pub hands : TraceHands calls
-  pub shown : RefutedShown calls
+  pub seen : RefutedShown calls
   -- 3
   pub start : StartLeaves calls
   pub steps : StepsClose calls

@@ -1,4 +1,4 @@
--- What the two public functions promise that `Sheet.antt` does not tell, by name (`Reads` and `Writes` stand there): the contract cites
+-- What `length_by_header` and `refusal_of` promise, by name (for `read` and `write`: `Reads` and `Writes`, in `Sheet.antt`): the contract cites
 -- the name, and so does the line which says that any two results that meet it are equal (`proofs/Unique.antt`).
 use Prim.Native.Nat.{ℕ}
 use mathlib.Core.Path.{_≡_}
