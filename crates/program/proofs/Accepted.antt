@@ -15,16 +15,16 @@ use Rattle.sheet.proofs.Header.{count-lt, length-nodes}
 use Rattle.sheet.proofs.Accepted.{read-none, side-none}
 use Rattle.goals.specs.Refusals.{Against, against, first, startRefusal}
 use Rattle.program.specs.Program.{leftSheet, rightSheet, sidesIn, refusalIn, endedOn}
-use Rattle.program.proofs.Running.{ended-outcome}
+use Rattle.program.proofs.Running.{three-outcomes}
 
 -- ---- the first of the rules, where the one before is none, and where it is one
-pub skip : (side n : ℕ) (rest : List Against) → n ≡ 0 → first (against side n ∷ rest) ≡ first rest
+pub refusal-skip : (side n : ℕ) (rest : List Against) → n ≡ 0 → first (against side n ∷ rest) ≡ first rest
 unfolding first
-skip side n rest e = ap (λ (k : ℕ). cond (eqb k 0) (first rest) (against side k)) e
+refusal-skip side n rest e = ap (λ (k : ℕ). cond (eqb k 0) (first rest) (against side k)) e
 
-pub here : (side n : ℕ) (rest : List Against) → eqb n 0 ≡ false → first (against side n ∷ rest) ≡ against side n
+pub refusal-here : (side n : ℕ) (rest : List Against) → eqb n 0 ≡ false → first (against side n ∷ rest) ≡ against side n
 unfolding first
-here side n rest e = ap (λ (b : Bool). cond b (first rest) (against side n)) e
+refusal-here side n rest e = ap (λ (b : Bool). cond b (first rest) (against side n)) e
 
 -- ---- sheets that are read
 -- a sheet that is read is an accepted side
@@ -47,9 +47,9 @@ no-fifteen n = ap (λ (k : ℕ). first (against 3 n ∷ against 3 k ∷ [])) (ru
 pub start-is : (input : List ℕ) → readRefusal (leftSheet input) 255 ≡ 0 → readRefusal (rightSheet input) 255 ≡ 0 → startRefusal (sidesIn input) 1024 ≡ refusalIn input
 unfolding refusalIn startRefusal
 start-is input l r =
-    skip 1 _ _ (side-accepted (leftSheet input) l) ∙ skip 2 _ _ (side-accepted (rightSheet input) r)
+    refusal-skip 1 _ _ (side-accepted (leftSheet input) l) ∙ refusal-skip 2 _ _ (side-accepted (rightSheet input) r)
     ∙ no-fifteen (rule 14 (not (eqb (sidesIn input .ls) (sidesIn input .rs))))
-    ∙ sym (skip 1 _ _ l ∙ skip 2 _ _ r)
+    ∙ sym (refusal-skip 1 _ _ l ∙ refusal-skip 2 _ _ r)
 
 -- ---- an input that is not refused
 -- a refusal of number 0 is none
@@ -70,7 +70,7 @@ module _ (input : List ℕ) (fine : refusalIn input .number ≡ 0) where
     where
       by : (b : Bool) → eqb (readRefusal (leftSheet input) 255) 0 ≡ b → readRefusal (leftSheet input) 255 ≡ 0
       by true e = eqb-true _ _ e
-      by false e = sym (ap (λ (w : Against). w .number) (here 1 _ _ e)) ∙ fine
+      by false e = sym (ap (λ (w : Against). w .number) (refusal-here 1 _ _ e)) ∙ fine
 
   right-read : readRefusal (rightSheet input) 255 ≡ 0
   unfolding refusalIn
@@ -78,13 +78,13 @@ module _ (input : List ℕ) (fine : refusalIn input .number ≡ 0) where
     where
       by : (b : Bool) → eqb (readRefusal (rightSheet input) 255) 0 ≡ b → readRefusal (rightSheet input) 255 ≡ 0
       by true e = eqb-true _ _ e
-      by false e = sym (ap (λ (w : Against). w .number) (skip 1 _ _ left-read ∙ here 2 _ _ e)) ∙ fine
+      by false e = sym (ap (λ (w : Against). w .number) (refusal-skip 1 _ _ left-read ∙ refusal-here 2 _ _ e)) ∙ fine
 
   -- start accepts its sides
-  pub accepted : startRefusal (sidesIn input) 1024 ≡ against 0 0
+  pub input-accepted : startRefusal (sidesIn input) 1024 ≡ against 0 0
   unfolding startRefusal
-  accepted = none-is _ (ap (λ (w : Against). w .number) (start-is input left-read right-read) ∙ fine)
+  input-accepted = none-is _ (ap (λ (w : Against). w .number) (start-is input left-read right-read) ∙ fine)
 
   -- outcome 0 cannot come out
   pub never-open : (endedOn (sidesIn input) .outcome ≡ 1) ⊎ ((endedOn (sidesIn input) .outcome ≡ 2) ⊎ (endedOn (sidesIn input) .outcome ≡ 3))
-  never-open = ended-outcome (sidesIn input) accepted
+  never-open = three-outcomes (sidesIn input) input-accepted

@@ -3,7 +3,7 @@
 use Prim.Native.Nat.{ℕ, _+_, _≤_, _<_}
 use mathlib.Core.Path.{_≡_, refl, sym, ap, ap₂, subst, _∙_}
 use mathlib.Core.Bool.{Bool, true, false}
-use mathlib.Core.Logic.{_⊎_, inl, _≢_}
+use mathlib.Core.Logic.{_⊎_, inl, _↔_, _≢_}
 use mathlib.Core.List.{List, []}
 use native.Mathlib.Nat.{le-refl, le-trans}
 use native.Mathlib.Omega.{arith}
@@ -14,13 +14,13 @@ use Rattle.goals.specs.declared.Row.{Row}
 use Rattle.goals.specs.Run.{State, started, run}
 use Rattle.goals.specs.Refusals.{Given, leftOf, rightOf, roomOf, recordOf, impossibleFor, Against, against, startRefusal, runRefusal, leaves, runAfter}
 use Rattle.demands.specs.Calls.{Lent, usedIn, holding, Runs, ours}
-use Rattle.demands.specs.Demands.{LeftTrace, RightTrace, most, Chain}
+use Rattle.demands.specs.Demands.{LeftTrace, RightTrace, Has, Differ, Reaches, most, Chain}
 use Rattle.demands.proofs.Both.{Both}
 use Rattle.demands.proofs.Possible.{possible-iff}
 use Rattle.demands.proofs.Accepting.{start-passes, run-passes}
 use Rattle.demands.proofs.Calling.{after, used-holding}
 use Rattle.demands.proofs.Standing.{chain-standing}
-use Rattle.demands.proofs.Included.{included-only-if}
+use Rattle.demands.proofs.Included.{included-only-if, counts-reached}
 use Rattle.demands.proofs.Refuting.{refuted-only-with}
 use Rattle.demands.proofs.Room.{room-and-budget, no-room, budget-ends}
 use Rattle.demands.proofs.Going.{PossibleFor, ran-possible-after}
@@ -116,6 +116,10 @@ module _ (g : Given) (room : ℕ) (small : room ≤ 65535) (starts : startRefusa
   pub end-settled : end .settled ≤ room
   end-settled = le-trans (end-is-possible .settled) end-fits
 
+  -- fewer are settled, unless it is included
+  pub end-undone : end .outcome ≢ 1 → end .settled < length (end .rows)
+  end-undone = chain-standing g room room (end .rows) (recordOf end) (end-chain room (le-refl room)) .undone
+
   -- out of room: every row is used,
   pub end-filled : end .outcome ≡ 3 → length (end .rows) ≡ room
   end-filled e =
@@ -142,8 +146,8 @@ module _ (g : Given) (starts : startRefusal g 1024 ≡ against 0 0) where
   ended-chain = end-chain g 1024 few starts 1024 (le-refl 1024)
 
   -- the run has ended: included, refuted or no room
-  pub ended-outcome : (endedOn g .outcome ≡ 1) ⊎ ((endedOn g .outcome ≡ 2) ⊎ (endedOn g .outcome ≡ 3))
-  ended-outcome = end-outcome g 1024 few starts
+  pub three-outcomes : (endedOn g .outcome ≡ 1) ⊎ ((endedOn g .outcome ≡ 2) ⊎ (endedOn g .outcome ≡ 3))
+  three-outcomes = end-outcome g 1024 few starts
 
   -- it uses no more rows than there are
   pub ended-fits : length (endedOn g .rows) ≤ 1024
@@ -152,17 +156,33 @@ module _ (g : Given) (starts : startRefusal g 1024 ≡ against 0 0) where
   pub ended-settled : endedOn g .settled ≤ 1024
   ended-settled = end-settled g 1024 few starts
 
-  -- included: every trace of the left is one of the right
-  pub included : endedOn g .outcome ≡ 1 → (w : List ℕ) → LeftTrace g w → RightTrace g w
-  included = included-only-if g 1024 1024 (endedOn g .rows) (recordOf (endedOn g)) ended-chain
+  -- and has settled fewer, unless it is included
+  pub ended-undone : endedOn g .outcome ≢ 1 → endedOn g .settled < length (endedOn g .rows)
+  ended-undone = end-undone g 1024 few starts
+
+  -- included: every trace of the left is one of the right,
+  pub ended-included : endedOn g .outcome ≡ 1 → (w : List ℕ) → LeftTrace g w → RightTrace g w
+  ended-included = included-only-if g 1024 1024 (endedOn g .rows) (recordOf (endedOn g)) ended-chain
+
+  -- all rows are settled, and they are the goals that some trace reaches
+  pub ended-goals : endedOn g .outcome ≡ 1
+      → (goals : List Row)
+      × (length goals ≡ endedOn g .settled)
+      × (length goals ≡ length (endedOn g .rows))
+      × Differ goals
+      × ((p S : ℕ) → Has goals p S ↔ ((w : List ℕ) × Reaches g w p S))
+  ended-goals e =
+      let (goals, count, once, each) = counts-reached g 1024 1024 (endedOn g .rows) (recordOf (endedOn g)) ended-chain e in
+      let done : endedOn g .settled ≡ length (endedOn g .rows) = chain-standing g 1024 1024 (endedOn g .rows) (recordOf (endedOn g)) ended-chain .done e in
+      (goals, count, count ∙ done, once, each)
 
   -- refuted: its trace is one of the left and none of the right
-  pub refuted : endedOn g .outcome ≡ 2 → LeftTrace g (traceIn g) × (RightTrace g (traceIn g) → ⊥)
-  refuted = refuted-only-with g 1024 1024 (endedOn g .rows) (recordOf (endedOn g)) ended-chain
+  pub ended-refuted : endedOn g .outcome ≡ 2 → LeftTrace g (traceIn g) × (RightTrace g (traceIn g) → ⊥)
+  ended-refuted = refuted-only-with g 1024 1024 (endedOn g .rows) (recordOf (endedOn g)) ended-chain
 
   -- no room: all rows are used, and 1 + m × 2^k is above their number
-  pub filled : endedOn g .outcome ≡ 3 → length (endedOn g .rows) ≡ 1024
-  filled = end-filled g 1024 few starts
+  pub all-used : endedOn g .outcome ≡ 3 → length (endedOn g .rows) ≡ 1024
+  all-used = end-filled g 1024 few starts
 
   pub outgrown : endedOn g .outcome ≡ 3 → 1024 < most g
   outgrown = end-outgrown g 1024 few starts

@@ -3,7 +3,7 @@ use Prim.Native.Nat.{ℕ}
 use mathlib.Core.Path.{refl, _∙_}
 use mathlib.Core.List.{List}
 use Rattle.program.specs.Meaning.{printsLines}
-use Rattle.program.proofs.Meaning.{says}
+use Rattle.program.proofs.Meaning.{lines-mean}
 use Rattle.verdict.specs.Prints.{printsAnswer, VerdictSays}
 use Rattle.verdict.proofs.Fitting.{lines-printed}
 
@@ -14,9 +14,9 @@ prints-lines input lines (r, p, e) = e ∙ lines-printed input r p
 pub verdict-says : VerdictSays
 verdict-says =
     record {
-      answers = λ input. (_, (_, refl, refl));
-      included = λ input rest p. says .included input rest (prints-lines input _ p);
-      refuted = λ input rest p. says .refuted input rest (prints-lines input _ p);
-      no-room = λ input rest p. says .no-room input rest (prints-lines input _ p);
-      never-open = λ input lines p. says .never-open input lines (prints-lines input lines p);
+      line-always = λ input. (_, (_, refl, refl));
+      line-included = λ input rest p. lines-mean .line-included input rest (prints-lines input _ p);
+      line-refuted = λ input rest p. lines-mean .line-refuted input rest (prints-lines input _ p);
+      line-no-room = λ input rest p. lines-mean .line-no-room input rest (prints-lines input _ p);
+      line-never-open = λ input lines p. lines-mean .line-never-open input lines (prints-lines input lines p);
     }

@@ -18,7 +18,7 @@ use Rattle.sheet.proofs.Header.{length-nodes}
 use Rattle.goals.specs.Refusals.{Against, against}
 use Rattle.program.specs.Lines.{refusedLine, endedLines}
 use Rattle.program.specs.Program.{leftSheet, rightSheet, sidesIn, refusalIn, endedOn, linesOf}
-use Rattle.program.proofs.Accepted.{skip, here, start-is}
+use Rattle.program.proofs.Accepted.{refusal-skip, refusal-here, start-is}
 use Rattle.verdict.specs.Core.{comparisonLines}
 
 -- no more bytes than there are
@@ -87,14 +87,14 @@ refused-is input why e h =
 
 pub lines-left : (input : List ℕ) (n : ℕ) → n ≡ readRefusal (leftSheet input) 255 → eqb (readRefusal (leftSheet input) 255) 0 ≡ false → refusedLine (against 1 n) ≡ linesOf input
 unfolding refusalIn
-lines-left input n e h = ap (λ (k : ℕ). refusedLine (against 1 k)) e ∙ refused-is input _ (here 1 _ _ h) h
+lines-left input n e h = ap (λ (k : ℕ). refusedLine (against 1 k)) e ∙ refused-is input _ (refusal-here 1 _ _ h) h
 
 -- the right one, and not the left
 pub lines-right :
     (input : List ℕ) (n : ℕ) → readRefusal (leftSheet input) 255 ≡ 0 → n ≡ readRefusal (rightSheet input) 255 → eqb (readRefusal (rightSheet input) 255) 0 ≡ false
     → refusedLine (against 2 n) ≡ linesOf input
 unfolding refusalIn
-lines-right input n l e h = ap (λ (k : ℕ). refusedLine (against 2 k)) e ∙ refused-is input _ (skip 1 _ _ l ∙ here 2 _ _ h) h
+lines-right input n l e h = ap (λ (k : ℕ). refusedLine (against 2 k)) e ∙ refused-is input _ (refusal-skip 1 _ _ l ∙ refusal-here 2 _ _ h) h
 
 -- neither
 pub lines-both : (input : List ℕ) → readRefusal (leftSheet input) 255 ≡ 0 → readRefusal (rightSheet input) 255 ≡ 0 → comparisonLines (sidesIn input) ≡ linesOf input

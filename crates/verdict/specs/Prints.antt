@@ -5,7 +5,7 @@ use mathlib.Core.List.{List}
 use lib.ListN.{length, take, replicate}
 use Rattle.effect.specs.Refusals.{front}
 use Rattle.program.specs.Program.{linesOf}
-use Rattle.program.specs.Meaning.{Program, Says}
+use Rattle.program.specs.Meaning.{Program, LinesMean}
 use Rattle.verdict.specs.declared.Lines.{Lines}
 
 -- the promise of `verdict`: the lines at the front of the bytes, zeros behind them, and how many there are
@@ -19,4 +19,4 @@ printsAnswer input lines = (r : Lines) × Prints input r × (lines ≡ take (r .
 -- What its lines mean: `included`, `refuted` with its trace, `no room`, and never open (proved as `verdict-says`). The statements are of
 -- any program, and stand with the definitions of the lines.
 abbrev pub VerdictSays : Type 0
-VerdictSays = Says printsAnswer
+VerdictSays = LinesMean printsAnswer
