@@ -1,4 +1,4 @@
-#!/usr/bin/env python3
+#!/usr/bin/env -S python3 -I
 """Spells this repository's own definitions and lemmas as today's Rattle does, after port.py has turned the rest.
 
 usage: tools/respell.py          at the top of the repository, once, on what port.py left
@@ -9,9 +9,13 @@ capital, also within a name (`chain-C2`, `single-Reads`). Names of src/ are in s
 turned `getD` within a few names to `get_d`: those follow `get_or`.
 """
 
+import sys
+
+if not __debug__:  # as in every script here
+    sys.exit('tools/respell.py: python3 leaves assertions out (-O or PYTHONOPTIMIZE), so nothing would be checked')
+
 import os
 import re
-import sys
 
 TOKEN = re.compile(r"[^\s(){}\[\],.;:\"`|=]+")
 DECLARED = re.compile(r"^\s*(?:(?:abbrev|unfoldable|pub|data|record)\s+)*([^\s:(){}\"]+) :(?= |$)")

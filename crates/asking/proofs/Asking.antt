@@ -17,8 +17,8 @@ use Rattle.places.specs.Side.{side_of, no_side, prepare_of}
 use Rattle.goals.specs.declared.Row.{Row}
 use Rattle.goals.specs.declared.Run.{Run}
 use Rattle.goals.specs.declared.SideRefusal.{SideRefusal}
-use Rattle.goals.specs.Run.{State, state, run}
-use Rattle.goals.specs.Refusals.{Given, room_of, left_of, right_of, Against, against, against_of, first, side_rules, refusal_by, refusal_of, start_rules, run_rules, trace_rules, start_refusal, run_refusal, trace_refusal, run_after, Reply, exit, leaves}
+use Rattle.goals.specs.Run.{state, run}
+use Rattle.goals.specs.Refusals.{Given, room_of, left_of, right_of, Against, against, against_of, first, side_rules, refusal_by, refusal_of, start_rules, run_rules, trace_rules, start_refusal, run_refusal, trace_refusal, run_after}
 use Rattle.asking.specs.declared.Asked.{Asked}
 use Rattle.asking.specs.Asked.{named, why_not, asked_of, asked_rules, Judged, side_impossible, Possible, start_refusal_on, run_refusal_on, trace_refusal_on, run_after_on}
 use Rattle.asking.proofs.Refusing.{first-here, first-skip, first-none, first_more, first_past, first-zero, named_self, Sided, named-sided, sided}

@@ -1,5 +1,5 @@
 -- Refusal 24 as a property (`passes-iff`), and that it never applies to a side that was made of an accepted table (`made-possible`).
-use Prim.Native.Nat.{ℕ, zero, suc, ◌+◌, ◌^◌, ◌≤◌, ◌<◌}
+use Prim.Native.Nat.{ℕ, zero, suc, ◌+◌, ◌^◌, ◌≤◌}
 use mathlib.Core.Path.{◌≡◌, subst}
 use mathlib.Core.Bool.{false, not}
 use mathlib.Core.Logic.{⊎_elim, ◌↔◌}
@@ -22,7 +22,6 @@ use Rattle.places.specs.Side.{side_of}
 use Rattle.places.proofs.Sets.{same, or-mem, cond-mem}
 use Rattle.places.proofs.Rows.{last-places, after-places}
 use Rattle.places.proofs.ByPlace.{followers-at}
-use Rattle.places.specs.declared.Side.{Side}
 use Rattle.asking.specs.Asked.{strays, side_impossible, Possible, PassesIff}
 
 -- every member of a set is at most the count

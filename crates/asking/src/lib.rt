@@ -1,4 +1,6 @@
 // Both sides of a comparison by value, as every call takes them: made of two tables, or handed in by anybody.
+#![tactic(auto)]
+
 ghost use Rattle.std.specs.Prelude.{◌≡◌, not, [], ◌∷◌, eqb, get_or};
 ghost use Rattle.effect.specs.Refusals.{rule, some_below};
 ghost use Rattle.goals.specs.Refusals.{given, against, first};
@@ -10,7 +12,7 @@ use goals::{SideRefusal, Which};
 use places::Side;
 
 // Both sides as a call takes them, or why there are none (number 0: there are).
-#[derive(Drop)]
+#[derive(Clone, Copy)]
 pub struct Asked {
     pub why: SideRefusal,
     pub left: Side,

@@ -18,7 +18,7 @@ use Rattle.goals.specs.declared.Run.{Run}
 use Rattle.columns.specs.declared.Letters.{Letters}
 use Rattle.goals.specs.Goals.{row_zero, bad, candidates, Entered, enter_all}
 use Rattle.goals.specs.Run.{State, state, settle, step, steps, run}
-use Rattle.columns.specs.Calls.{Columns, columns, rows_in, put, state_of}
+use Rattle.columns.specs.Calls.{Columns, rows_in, put, state_of}
 use Rattle.columns.specs.Core.{Fits, entering, letters_of, Ready, Steps, Runnable}
 use Rattle.columns.proofs.Laws.{length-rows_in, put-put, rows-put, all-grows, fits-put, put_same}
 

@@ -12,7 +12,6 @@ use borrow.Author.Tests.{eq-eqb, ne_eqb, lt-ltb, le-ltb}
 use Rattle.effect.specs.Refusals.{rule, front}
 use Rattle.effect.proofs.Laws.{rule-none}
 use Rattle.effect.proofs.Front.{front-next}
-use Rattle.places.specs.declared.Side.{Side}
 use Rattle.places.proofs.Matched.{matched}
 use Rattle.goals.specs.declared.Row.{Row}
 use Rattle.goals.specs.declared.Run.{Run}

@@ -1,28 +1,21 @@
 -- Rows in columns, and entering goals one after another: what the loops over members and letters lean on.
-use Prim.Native.Nat.{ℕ, zero, suc, ◌+◌, ◌-◌, ◌^◌, ◌≤◌, ◌<◌}
+use Prim.Native.Nat.{ℕ, zero, suc, ◌+◌, ◌≤◌, ◌<◌}
 use mathlib.Core.Path.{◌≡◌, refl, sym, ap, ap₂, subst, ◌∙◌}
 use mathlib.Core.Bool.{Bool, true, false, cond, ◌&&◌, ◌||◌, or_assoc, or-false}
 use mathlib.Core.List.{List, [], ◌∷◌, ◌++◌, map, append_assoc, append-nil}
 use mathlib.Core.Logic.{⊎_elim}
-use native.Mathlib.Nat.{eq-or-lt_of_le, lt_of_lt_of_le}
-use native.Mathlib.Numerals.{add-one}
+use native.Mathlib.Nat.{eq-or-lt_of_le}
 use native.Mathlib.Omega.{arith}
-use lib.Pow.{pow_mono}
-use lib.Bits.{bit_and}
 use lib.Dec.{eqb}
 use lib.ListN.{length, get_or, set, take, drop, length-append, length-map}
 use lib.Seq.{take-suc, take-length, length-take-le}
-use Rattle.bits.specs.Bit.{bit, has}
-use Rattle.bits.proofs.Laws.{bit-zero}
 use borrow.Author.Tests.{eq-eqb, ne_eqb, eqb-false}
 use Rattle.effect.specs.Refusals.{some_below, front}
 use Rattle.effect.proofs.Front.{length_front, front-next, front-front, front-taken}
 use Rattle.goals.specs.declared.Row.{Row}
 use Rattle.columns.specs.declared.Entering.{Entering}
-use Rattle.goals.specs.Goals.{row, known, Entered, enter, enter_all, each_member, each_letter}
+use Rattle.goals.specs.Goals.{row, known, Entered, enter, enter_all}
 use Rattle.columns.specs.Calls.{Columns, columns, row_at, rows_in, put}
-use Rattle.columns.specs.declared.Letters.{Letters}
-use Rattle.places.specs.Matching.{matching_by}
 use Rattle.columns.specs.Core.{Fits, entering, Enters}
 
 -- ---- rows in columns

@@ -1,7 +1,5 @@
 -- The calls on parallel columns: what each is lent, answers and leaves.
 use Rattle.std.specs.Prelude.{ℕ, zero, suc, min, ◌≡◌, List, [], ◌∷◌, ◌++◌, map, length, get_or}
-use denote.Triple.Both.{Both}
-use Rattle.std.specs.Borrow.{Bor}
 use Rattle.effect.specs.Refusals.{front}
 use Rattle.goals.specs.declared.Row.{Row}
 use Rattle.goals.specs.declared.Run.{Run}
@@ -24,19 +22,6 @@ pub record Columns : Type 0 where
 
 abbrev pub columns : List ℕ → List ℕ → List ℕ → List ℕ → Columns
 columns p s q l = record { places = p; sets = s; parents = q; letters = l }
-
--- the four columns of a contract: as lent to a `requires`, and at entry and at exit of an `ensures`
-abbrev pub Slice : Type 0
-Slice = Bor (List ℕ)
-
-abbrev pub here : Slice → Slice → Slice → Slice → Columns
-here p s q l = columns p.now s.now q.now l.now
-
-abbrev pub before : Both Slice Slice → Both Slice Slice → Both Slice Slice → Both Slice Slice → Columns
-before p s q l = here p.entry s.entry q.entry l.entry
-
-abbrev pub after : Both Slice Slice → Both Slice Slice → Both Slice Slice → Both Slice Slice → Columns
-after p s q l = here p.exit s.exit q.exit l.exit
 
 abbrev pub row_at : Columns → ℕ → Row
 row_at c i = row (get_or c.places i 0) (get_or c.sets i 0) (get_or c.parents i 0) (get_or c.letters i 0)

@@ -1,4 +1,6 @@
 // The run on number slices: start, run and trace on parallel columns of rows.
+#![tactic(auto)]
+
 ghost use Rattle.std.specs.Prelude.{◌≡◌, ◌&&◌, not, cond, [], ℕ, ◌+◌, ◌<◌, ◌≤◌, eqb, length, get_or};
 ghost use Rattle.bits.specs.Bit.{has};
 ghost use Rattle.effect.specs.Refusals.{some_below, front};
@@ -7,7 +9,7 @@ ghost use Rattle.goals.specs.Run.{step, steps, run};
 ghost use Rattle.goals.specs.Refusals.{room_of, row_impossible, impossible};
 ghost use Rattle.asking.specs.Asked.{named, run_refusal_on};
 ghost use Rattle.stepping.specs.Rest.{all_goals};
-ghost use Rattle.columns.specs.Calls.{here, before, after, row_at, rows_in, state_of, Starts, Runs, Traces};
+ghost use Rattle.columns.specs.Calls.{columns, row_at, rows_in, state_of, Starts, Runs, Traces};
 ghost use Rattle.columns.specs.Core.{Fits, Enters, entering, letters_of, source_of, Ready, Steps, Runnable, Rooted, climb};
 
 use asking::{Asked, both};
@@ -16,21 +18,21 @@ use places::{Naming, Side};
 use stepping::{Cursor, Next, Source, next_goal};
 
 // What start and run answer: the record of the run, or the refusal.
-#[derive(Drop)]
+#[derive(Clone, Copy)]
 pub enum Called {
     Accepted(Run),
     Refused(SideRefusal),
 }
 
 // What trace answers: how many letters it wrote, or the refusal.
-#[derive(Drop)]
+#[derive(Clone, Copy)]
 pub enum Tracing {
     Accepted(usize),
     Refused(SideRefusal),
 }
 
 // The letters of a call, worked out once: s signals, and for each side which places name a signal.
-#[derive(Drop)]
+#[derive(Clone, Copy)]
 struct Letters {
     s: u8,
     left: Naming,
@@ -38,7 +40,7 @@ struct Letters {
 }
 
 // How many rows are used once goals were entered, and whether one found no room.
-#[derive(Drop)]
+#[derive(Clone, Copy)]
 struct Entering {
     used: usize,
     full: bool,
@@ -69,9 +71,9 @@ fn enter_goal(
     room: usize,
     goal: Row,
 ) -> Entering
-    requires { Fits (here places sets parents letters) used room }
-    ensures { let c = before places sets parents letters in
-        Enters c (after places sets parents letters) (enter room goal (entering (rows_in c used))) result }
+    requires { Fits (columns places.old sets.old parents.old letters.old) used room }
+    ensures { let c = columns places.old sets.old parents.old letters.old in
+        Enters c (columns places.new sets.new parents.new letters.new) (enter room goal (entering (rows_in c used))) result }
 {
     let place = goal.place;
     let set = goal.set;
@@ -107,9 +109,9 @@ fn enter_goals(
     room: usize,
     from: Source,
 ) -> Entering
-    requires { Fits (here places sets parents letters) used room }
-    ensures { let c = before places sets parents letters in
-        Enters c (after places sets parents letters) (enter_all room (all_goals from) (entering (rows_in c used))) result }
+    requires { Fits (columns places.old sets.old parents.old letters.old) used room }
+    ensures { let c = columns places.old sets.old parents.old letters.old in
+        Enters c (columns places.new sets.new parents.new letters.new) (enter_all room (all_goals from) (entering (rows_in c used))) result }
 {
     let mut u = used;
     let mut cur = Cursor {
@@ -213,9 +215,9 @@ fn step_on(
     ls: Letters,
     run: Run,
 ) -> Run
-    requires { Ready (here places sets parents letters) room left right ls run }
-    ensures { let c = before places sets parents letters in
-        Steps c (after places sets parents letters) (step left right room (state_of c run)) result }
+    requires { Ready (columns places.old sets.old parents.old letters.old) room left right ls run }
+    ensures { let c = columns places.old sets.old parents.old letters.old in
+        Steps c (columns places.new sets.new parents.new letters.new) (step left right room (state_of c run)) result }
 {
     let r = run.settled as usize;
     let place = places[r];
@@ -253,9 +255,9 @@ fn steps_on(
     run: Run,
     budget: u64,
 ) -> Run
-    requires { Ready (here places sets parents letters) room left right ls run }
-    ensures { let c = before places sets parents letters in
-        Steps c (after places sets parents letters) (steps left right room budget (state_of c run)) result }
+    requires { Ready (columns places.old sets.old parents.old letters.old) room left right ls run }
+    ensures { let c = columns places.old sets.old parents.old letters.old in
+        Steps c (columns places.new sets.new parents.new letters.new) (steps left right room budget (state_of c run)) result }
 {
     let mut cur = run;
     let mut b: u64 = 0;
@@ -282,9 +284,9 @@ fn run_sides(
     held: Run,
     budget: u64,
 ) -> Run
-    requires { Runnable (here places sets parents letters) room left right held }
-    ensures { let c = before places sets parents letters in
-        Steps c (after places sets parents letters) (run left right room budget (state_of c held)) result }
+    requires { Runnable (columns places.old sets.old parents.old letters.old) room left right held }
+    ensures { let c = columns places.old sets.old parents.old letters.old in
+        Steps c (columns places.new sets.new parents.new letters.new) (run left right room budget (state_of c held)) result }
 {
     if held.outcome == 1 {
         return held;
@@ -301,7 +303,7 @@ fn run_sides(
 // Row i of the columns.
 fn row_at(places: &[u8], sets: &[u64], parents: &[u16], letters: &[u16], i: usize) -> Row
     requires { (i < length places.now) × (i < length sets.now) × (i < length parents.now) × (i < length letters.now) }
-    ensures { result ≡ row_at (before places sets parents letters) i }
+    ensures { result ≡ row_at (columns places.now sets.now parents.now letters.now) i }
 {
     Row {
         set: sets[i],
@@ -322,8 +324,8 @@ fn some_row_impossible(
     m: u8,
     k: u8,
 ) -> bool
-    requires { Fits (here places sets parents letters) 1 used }
-    ensures { result ≡ some_below used (λ i. not (eqb i 0) && row_impossible s m k i (row_at (before places sets parents letters) i)) }
+    requires { Fits (columns places.now sets.now parents.now letters.now) 1 used }
+    ensures { result ≡ some_below used (λ i. not (eqb i 0) && row_impossible s m k i (row_at (columns places.now sets.now parents.now letters.now) i)) }
 {
     let mut i: usize = 1;
     while i < used {
@@ -348,8 +350,8 @@ fn is_impossible(
     k: u8,
     held: Run,
 ) -> bool
-    requires { Fits (here places sets parents letters) 0 room }
-    ensures { result ≡ impossible s m k room (rows_in (before places sets parents letters) held.used) held }
+    requires { Fits (columns places.now sets.now parents.now letters.now) 0 room }
+    ensures { result ≡ impossible s m k room (rows_in (columns places.now sets.now parents.now letters.now) held.used) held }
 {
     if goals::record_impossible(room, held) {
         return true;
@@ -370,7 +372,7 @@ pub fn start_on(
     parents: &mut [u16],
     letters: &mut [u16],
 ) -> Called
-    ensures { Starts asked lent (before places sets parents letters) result (after places sets parents letters) }
+    ensures { Starts asked lent (columns places.old sets.old parents.old letters.old) result (columns places.new sets.new parents.new letters.new) }
 {
     let why = asking::why_not(asked);
     if why.refusal.number != 0 {
@@ -401,8 +403,8 @@ fn run_refusal(
     letters: &[u16],
     held: Run,
 ) -> SideRefusal
-    requires { Fits (here places sets parents letters) 0 (room_of n) }
-    ensures { result ≡ named (run_refusal_on asked n (rows_in (before places sets parents letters) held.used) held) }
+    requires { Fits (columns places.now sets.now parents.now letters.now) 0 (room_of n) }
+    ensures { result ≡ named (run_refusal_on asked n (rows_in (columns places.now sets.now parents.now letters.now) held.used) held) }
 {
     let of_sides = asking::why_not(asked);
     if of_sides.refusal.number != 0 {
@@ -438,7 +440,7 @@ pub fn run_on(
     run: Run,
     budget: u64,
 ) -> Called
-    ensures { Runs asked lent (before places sets parents letters) run budget result (after places sets parents letters) }
+    ensures { Runs asked lent (columns places.old sets.old parents.old letters.old) run budget result (columns places.new sets.new parents.new letters.new) }
 {
     let n = goals::shortest(lent, places.len(), sets.len(), parents.len(), letters.len());
     let why = run_refusal(asked, n, places, sets, parents, letters, run);
@@ -501,7 +503,7 @@ pub fn trace_on(
     run: Run,
     out: &mut [u8],
 ) -> Tracing
-    ensures { Traces asked lent (before places sets parents letters) run out.old result out.new }
+    ensures { Traces asked lent (columns places.now sets.now parents.now letters.now) run out.old result out.new }
 {
     let n = goals::shortest(lent, places.len(), sets.len(), parents.len(), letters.len());
     let why = run_refusal(asked, n, places, sets, parents, letters, run);

@@ -13,7 +13,7 @@ use Rattle.effect.specs.Refusals.{rule, front}
 use Rattle.goals.specs.declared.Row.{Row}
 use Rattle.goals.specs.declared.Run.{Run}
 use Rattle.goals.specs.Run.{State, state, started, run, trace_of}
-use Rattle.goals.specs.Refusals.{room_of, record_of, record_impossible, impossible, Against, against, first, refusal_by, start_rules, Reply, Leaves, leaves, exit, values_of}
+use Rattle.goals.specs.Refusals.{room_of, record_of, record_impossible, impossible, Against, against, first, refusal_by, Reply, Leaves, leaves, exit, values_of}
 use Rattle.columns.specs.declared.Called.{Called}
 use Rattle.columns.specs.declared.Called.TheVariants as called-variants
 use Rattle.columns.specs.declared.Tracing.{Tracing}

@@ -1,16 +1,5 @@
 pub mod Laws
-pub mod Elem
-pub mod Facts
-pub mod Lent
-pub mod Frames
-pub mod Counting
-pub mod Copying
 pub mod Core
 pub mod Calling
-pub mod Values
-pub mod Lending
 pub mod Loading
-pub mod Walking
-pub mod Kit
-pub mod Asking
 pub mod Unique

@@ -1,30 +1,15 @@
--- What the calls on rows answer and leave: on any two sides by value, and what a contract's references stand for.
+-- What the calls on rows answer and leave: on any two sides by value.
 use Rattle.std.specs.Prelude.{ℕ, ◌≡◌, List, [], ◌∷◌, length}
-use denote.Triple.Both.{Both}
-use Rattle.std.specs.Borrow.{Bor}
 use Rattle.effect.specs.Refusals.{front}
-use Rattle.goals.specs.declared.Row.{Row}
-use Rattle.goals.specs.declared.Run.{Run}
 use Rattle.goals.specs.Run.{State, started, trace_of}
-use Rattle.goals.specs.Refusals.{Given, given, Against, against, against_of, Reply, exit, leaves}
+use Rattle.goals.specs.Refusals.{Against, against, against_of, Reply, exit, leaves}
 use Rattle.asking.specs.declared.Asked.{Asked}
 use Rattle.asking.specs.Asked.{start_refusal_on, run_refusal_on, trace_refusal_on, run_after_on}
-use Rattle.columns.specs.Calls.{Slice}
-use Rattle.demands.specs.Calls.{Lent, lent, used_in, holding}
+use Rattle.demands.specs.Calls.{Lent, used_in, holding}
 use Rattle.compare.specs.declared.Answered.{Answered}
 use Rattle.compare.specs.declared.Answered.TheVariants as answered-variants
 use Rattle.compare.specs.declared.Work.{Work}
 use Rattle.compare.specs.declared.Work.TheVariants as work-variants
-
--- of a contract's references: both sides' s and nodes, and the rows and the record lent, at entry and at exit
-abbrev pub given_in : ℕ → Both Slice Slice → ℕ → Both Slice Slice → Given
-given_in ls left rs right = given ls left.entry.now rs right.entry.now
-
-abbrev pub lent_before : Both (Bor (List Row)) (Bor (List Row)) → Both (Bor Run) (Bor Run) → Lent
-lent_before rows held = lent rows.entry.now held.entry.now
-
-abbrev pub lent_after : Both (Bor (List Row)) (Bor (List Row)) → Both (Bor Run) (Bor Run) → Lent
-lent_after rows held = lent rows.exit.now held.exit.now
 
 -- the number of each case of what start and run answer, with no values: the record tells them
 unfoldable pub answered : Answered → Reply

@@ -1,11 +1,13 @@
 // The calls as a caller makes them, on a lent table of rows and a lent record: thin functions above the calls on columns. The used
 // rows are loaded into columns, the core is called, and the rows that are then used are stored again at the front of the table.
+#![tactic(auto)]
+
 ghost use Rattle.std.specs.Prelude.{◌≡◌, min, take};
 ghost use Rattle.effect.specs.Refusals.{front};
-ghost use Rattle.goals.specs.Refusals.{room_of};
-ghost use Rattle.columns.specs.Calls.{here, before, after, rows_in, put, tracing};
-ghost use Rattle.demands.specs.Calls.{Starts, Runs, Traces};
-ghost use Rattle.compare.specs.Calls.{answered, given_in, lent_before, lent_after, Works, TracesAsked};
+ghost use Rattle.goals.specs.Refusals.{given, room_of};
+ghost use Rattle.columns.specs.Calls.{columns, rows_in, put, tracing};
+ghost use Rattle.demands.specs.Calls.{lent, Starts, Runs, Traces};
+ghost use Rattle.compare.specs.Calls.{answered, Works, TracesAsked};
 ghost use Rattle.compare.specs.Core.{to_load, next_of, LongEnough, WorksOn};
 
 use asking::{Asked, ask};
@@ -13,21 +15,21 @@ use columns::{Called, Tracing, run_on, start_on, trace_on};
 use goals::{Row, Run, SideRefusal, lesser};
 
 // What start and run answer: accepted, or the refusal. The record tells the rest.
-#[derive(Drop)]
+#[derive(Clone, Copy)]
 pub enum Answered {
     Accepted,
     Refused(SideRefusal),
 }
 
 // What a call is to do: begin a run, or go on with one for at most so many steps.
-#[derive(Drop)]
+#[derive(Clone, Copy)]
 pub enum Work {
     Start,
     Run(u64),
 }
 
 // What a call on columns leaves for the rows: the record, how many rows of the columns are to be stored, and the answer.
-#[derive(Drop)]
+#[derive(Clone, Copy)]
 struct Next {
     run: Run,
     rows: usize,
@@ -81,7 +83,7 @@ fn call_columns(
     held: Run,
     work: Work,
 ) -> Next
-    ensures { WorksOn work asked lent (before places sets parents letters) held result (after places sets parents letters) }
+    ensures { WorksOn work asked lent (columns places.old sets.old parents.old letters.old) held result (columns places.new sets.new parents.new letters.new) }
 {
     match work {
         Work::Start => {
@@ -104,8 +106,8 @@ fn load(
     parents: &mut [u16],
     letters: &mut [u16],
 )
-    requires { LongEnough n rows.now (here places sets parents letters) }
-    ensures { after places sets parents letters ≡ put (take n rows.now) (before places sets parents letters) }
+    requires { LongEnough n rows.now (columns places.old sets.old parents.old letters.old) }
+    ensures { columns places.new sets.new parents.new letters.new ≡ put (take n rows.now) (columns places.old sets.old parents.old letters.old) }
 {
     let mut i: usize = 0;
     while i < n {
@@ -120,8 +122,8 @@ fn load(
 
 // The first n rows of the columns at the front of the rows.
 fn store(rows: &mut [Row], n: usize, places: &[u8], sets: &[u64], parents: &[u16], letters: &[u16])
-    requires { LongEnough n rows.old (here places sets parents letters) }
-    ensures { rows.new ≡ front (rows_in (before places sets parents letters) n) rows.old }
+    requires { LongEnough n rows.old (columns places.now sets.now parents.now letters.now) }
+    ensures { rows.new ≡ front (rows_in (columns places.now sets.now parents.now letters.now) n) rows.old }
 {
     let mut i: usize = 0;
     while i < n {
@@ -137,7 +139,7 @@ fn store(rows: &mut [Row], n: usize, places: &[u8], sets: &[u64], parents: &[u16
 
 // One call on lent rows and a lent record: loads the rows that it needs, makes the call on columns, and stores the rows then used.
 pub fn call(asked: Asked, rows: &mut [Row], held: &mut Run, work: Work) -> Answered
-    ensures { Works work asked (lent_before rows held) (answered result) (lent_after rows held) }
+    ensures { Works work asked (lent rows.old held.old) (answered result) (lent rows.new held.new) }
 {
     let mut places: [u8; 65535] = [0; 65535];
     let mut sets: [u64; 65535] = [0; 65535];
@@ -164,7 +166,7 @@ pub fn call(asked: Asked, rows: &mut [Row], held: &mut Run, work: Work) -> Answe
 
 // Trace on lent rows and a lent record: loads the used rows, and makes the call on columns.
 pub fn trace_asked(asked: Asked, rows: &[Row], held: &Run, out: &mut [u8]) -> Tracing
-    ensures { TracesAsked asked (lent_before rows held) out.old (tracing result) out.new }
+    ensures { TracesAsked asked (lent rows.now held.now) out.old (tracing result) out.new }
 {
     let mut places: [u8; 65535] = [0; 65535];
     let mut sets: [u64; 65535] = [0; 65535];
@@ -185,7 +187,7 @@ pub fn start(
     rows: &mut [Row],
     held: &mut Run,
 ) -> Answered
-    ensures { Starts (given_in ls left rs right) (lent_before rows held) (answered result) (lent_after rows held) }
+    ensures { Starts (given ls left.now rs right.now) (lent rows.old held.old) (answered result) (lent rows.new held.new) }
 {
     let asked = ask(ls, left, rs, right);
     call(asked, rows, held, Work::Start)
@@ -201,7 +203,7 @@ pub fn run(
     held: &mut Run,
     budget: u64,
 ) -> Answered
-    ensures { Runs (given_in ls left rs right) (lent_before rows held) budget (answered result) (lent_after rows held) }
+    ensures { Runs (given ls left.now rs right.now) (lent rows.old held.old) budget (answered result) (lent rows.new held.new) }
 {
     let asked = ask(ls, left, rs, right);
     call(asked, rows, held, Work::Run(budget))
@@ -217,7 +219,7 @@ pub fn trace(
     held: &Run,
     out: &mut [u8],
 ) -> Tracing
-    ensures { Traces (given_in ls left rs right) (lent_before rows held) out.old (tracing result) out.new }
+    ensures { Traces (given ls left.now rs right.now) (lent rows.now held.now) out.old (tracing result) out.new }
 {
     let asked = ask(ls, left, rs, right);
     trace_asked(asked, rows, held, out)

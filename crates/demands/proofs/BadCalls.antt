@@ -29,8 +29,8 @@ use Rattle.goals.specs.Refusals.{Given, given, room_of, record_of, record_imposs
 use Rattle.goals.specs.Cases.{ample, given_by}
 use Rattle.demands.specs.Calls.{Lent, lent, used_in, holding, TraceCall, Starts, Runs}
 use Rattle.demands.specs.Ordered.{no_node, of_nodes, of_reader, of_writer, of_start, of_run, of_trace}
-use Rattle.demands.specs.Demands.{LeftTrace, RightTrace, Chain, Answers, SheetAnswers, ReadRefuses, WriteRefuses, StartRefuses, RunRefuses, TraceRefuses, ReadTakes, WritePuts, RefutedOnlyWith, TraceHands, RefutedShown, StartLeaves}
-use Rattle.demands.specs.BadVersions.{refuted_at_once, silent_start, silent_run, silent_trace, silent_reading, silent_writing, accepts_all, accepts_reading, accepts_writing, names_both, misnumbers, misnumbers_reading, misnumbers_writing, writes_refused, writes_refused_reading, writes_refused_writing, takes_nothing, takes_one_more, clears_table, puts_nothing, puts_one_more, clears_output, refutes_by_left, refutes_by_right, hands_nothing, hands_other, writes_on, counts_one_more, counts_no_letter, starts_without_row, starts_over_all}
+use Rattle.demands.specs.Demands.{LeftTrace, RightTrace, Chain, Answers, SheetAnswers, ReadRefuses, WriteRefuses, StartRefuses, RunRefuses, TraceRefuses, ReadTakes, WritePuts, RefutedOnlyWith, TraceHands, RefutedShown}
+use Rattle.demands.specs.BadVersions.{refuted_at_once, silent_start, silent_run, silent_trace, silent_reading, silent_writing, accepts_all, accepts_reading, accepts_writing, names_both, misnumbers, misnumbers_reading, misnumbers_writing, writes_refused, writes_refused_reading, writes_refused_writing, takes_nothing, takes_one_more, clears_table, puts_nothing, puts_one_more, clears_output, refutes_by_left, refutes_by_right, hands_nothing, hands_other, writes_on, counts_one_more, counts_no_letter}
 use Rattle.demands.proofs.InOrder.{answer}
 use Rattle.demands.proofs.OneCall.{ready, accepted, one-call}
 use Rattle.demands.proofs.BadVersions.{C1, gives-C1, decided, decided-number, sheet, table, leaves-it, nil-trace}

@@ -138,6 +138,8 @@ module _ (left right : Side) (i : ℕ) (w : Row) where
     where
       one : (x k : ℕ) → x < 2 ^ left.s → (b : Bool) → has (bit_and (followers left w.place) (matching left x)) k ≡ b
           → Among c (cond b (goal_at x k ∷ []) []) → Candidate c
+      one x k l false e h = elim h [ ]
+      one x k l true e (inr h) = elim h [ ]
       one x k l true e (inl q) =
           let u = (mem-and (followers left w.place) (matching left x) k).0 (eqb-true _ _ e) in
           record { by = x; at = k; below = l; follows = u.0; matches = u.1; is = q }

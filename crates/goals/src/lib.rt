@@ -1,4 +1,6 @@
 // Goals: the row and the record of a run, and what the rules ask of one goal, one row and one record.
+#![tactic(auto)]
+
 ghost use Rattle.std.specs.Prelude.{◌≡◌, cond, get_or};
 ghost use Rattle.bits.specs.Bit.{has};
 ghost use Rattle.goals.specs.Promises.{SameGoalIs, BadIs, FollowersAtIs, SpreadOfIs, RecordImpossibleIs, RowZeroImpossibleIs, RowImpossibleIs};
@@ -9,7 +11,7 @@ use places::Side;
 
 // A row of the goal table: a left place, a set of right places (bit j for place j), the row that it was entered from and
 // the letter that led here.
-#[derive(Drop)]
+#[derive(Clone, Copy)]
 pub struct Row {
     pub set: u64,
     pub parent: u16,
@@ -18,7 +20,7 @@ pub struct Row {
 }
 
 // The record of a run. Outcome: 0 open, 1 included, 2 refuted, 3 no room.
-#[derive(Drop)]
+#[derive(Clone, Copy)]
 pub struct Run {
     pub settled: u32,
     pub used: u32,
@@ -26,7 +28,7 @@ pub struct Run {
 }
 
 // The side that a refusal names.
-#[derive(Drop)]
+#[derive(Clone, Copy)]
 pub enum Which {
     Left,
     Right,
@@ -34,7 +36,7 @@ pub enum Which {
 }
 
 // Why a comparison was refused.
-#[derive(Drop)]
+#[derive(Clone, Copy)]
 pub struct SideRefusal {
     pub side: Which,
     pub refusal: Refusal,

@@ -1,9 +1,14 @@
 // The program. "It reads at most 1,217 bytes from standard input", and prints what the crate verdict answers to them.
-fn main() {
-    let mut input: [u8; 1217] = [0; 1217];
-    let n = io::read_full(0, &mut input);
-    let lines = verdict::verdict(&input[..n]);
-    let bytes = lines.bytes;
-    let len = lines.len;
-    io::write_all(1, &bytes[..len]);
+#![tactic(auto)]
+
+use std::io::{self, Read};
+
+// As many bytes of input as are read.
+const MOST_INPUT: u64 = 1217;
+
+fn main(rt: HostRuntime) -> io::Result<()> {
+    let mut input = Vec::new(rt.alloc());
+    rt.stdin().take(MOST_INPUT).read_to_end(&mut input)?;
+    let lines = verdict::verdict(&input);
+    rt.write_all(&lines.bytes[..lines.len])
 }

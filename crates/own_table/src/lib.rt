@@ -1,7 +1,8 @@
-// The calls on rows for a program: on a table of its own, which is made of columns and put back into them. A function in which a
-// `&mut [Row]` stands is proved by hand; these have plain parameters, and their callers are covered.
+// The calls on rows for a program: on a table of its own, which is made of columns and put back into them.
+#![tactic(auto)]
+
 ghost use Rattle.std.specs.Prelude.{◌≡◌, ◌≤◌, min, take};
-ghost use Rattle.columns.specs.Calls.{here, before, after, rows_in, put, tracing};
+ghost use Rattle.columns.specs.Calls.{columns, rows_in, put, tracing};
 ghost use Rattle.demands.specs.Calls.{lent};
 ghost use Rattle.compare.specs.Calls.{TracesAsked};
 ghost use Rattle.own_table.specs.Tables.{CallsTable, TracesTable};
@@ -13,14 +14,14 @@ use compare::{Answered, Work, call, trace_asked};
 use goals::{Row, Run, lesser, shortest};
 
 // What a start or run call on a table of its own tells: the record, and the answer.
-#[derive(Drop)]
+#[derive(Clone, Copy)]
 pub struct Told {
     pub run: Run,
     pub answer: Answered,
 }
 
 // A table of one's own with what a call left of it, and what it told.
-#[derive(Drop)]
+#[derive(Clone, Copy)]
 struct Own {
     rows: [Row; 65536],
     run: Run,
@@ -36,8 +37,8 @@ fn rows_lent(lent: usize, places: usize, sets: usize, parents: usize, letters: u
 
 // A table with the first n rows of the columns at its front.
 fn table_of(places: &[u8], sets: &[u64], parents: &[u16], letters: &[u16], n: usize) -> [Row; 65536]
-    requires { Enough n (here places sets parents letters) }
-    ensures { take n result ≡ rows_in (before places sets parents letters) n }
+    requires { Enough n (columns places.now sets.now parents.now letters.now) }
+    ensures { take n result ≡ rows_in (columns places.now sets.now parents.now letters.now) n }
 {
     let mut rows: [Row; 65536] = [Row {
         set: 0,
@@ -67,8 +68,8 @@ fn put_back(
     parents: &mut [u16],
     letters: &mut [u16],
 )
-    requires { Enough n (here places sets parents letters) }
-    ensures { after places sets parents letters ≡ put (take n rows) (before places sets parents letters) }
+    requires { Enough n (columns places.old sets.old parents.old letters.old) }
+    ensures { columns places.new sets.new parents.new letters.new ≡ put (take n rows) (columns places.old sets.old parents.old letters.old) }
 {
     let mut i: usize = 0;
     while i < n {
@@ -113,7 +114,7 @@ pub fn call_table(
     held: Run,
     work: Work,
 ) -> Told
-    ensures { CallsTable work asked lent (before places sets parents letters) held result (after places sets parents letters) }
+    ensures { CallsTable work asked lent (columns places.old sets.old parents.old letters.old) held result (columns places.new sets.new parents.new letters.new) }
 {
     let n = rows_lent(lent, places.len(), sets.len(), parents.len(), letters.len());
     let table = table_of(places, sets, parents, letters, n);
@@ -139,7 +140,7 @@ pub fn trace_table(
     held: Run,
     out: &mut [u8],
 ) -> Tracing
-    ensures { TracesTable asked lent (before places sets parents letters) held out.old result out.new }
+    ensures { TracesTable asked lent (columns places.now sets.now parents.now letters.now) held out.old result out.new }
 {
     let n = rows_lent(lent, places.len(), sets.len(), parents.len(), letters.len());
     let table = table_of(places, sets, parents, letters, n);

@@ -1,4 +1,6 @@
 // Places: a side of a comparison, made of an accepted node table.
+#![tactic(auto)]
+
 ghost use Rattle.std.specs.Prelude.{◌≡◌, cond, ◌+◌, ◌<◌, ◌≤◌, min, length, get_or};
 ghost use Rattle.bits.specs.Bit.{has};
 ghost use Rattle.effect.specs.Node.{decode_of, decodings};
@@ -16,7 +18,7 @@ use effect::{Checked, Decoded, Node, Refusal};
 
 // What a comparison needs of a side, by place: s, the number of instants, their masks, the places that accept (bit j for
 // place j), and for each place those that may follow. Where a table made it, entries of no place are 0.
-#[derive(Drop)]
+#[derive(Clone, Copy)]
 pub struct Side {
     pub s: u8,
     pub count: u8,
@@ -27,14 +29,14 @@ pub struct Side {
 }
 
 // A side, or the refusal of its table with the side of nothing.
-#[derive(Drop)]
+#[derive(Clone, Copy)]
 pub struct Prepared {
     pub refusal: Refusal,
     pub side: Side,
 }
 
 // The places that name present no signal which no letter has; and for each signal, those that name it present and those that name it absent.
-#[derive(Drop)]
+#[derive(Clone, Copy)]
 pub struct Naming {
     pub alive: u64,
     pub present: [u64; 16],
@@ -42,7 +44,7 @@ pub struct Naming {
 }
 
 // Of a node: whether it has the empty trace, and its first and last places.
-#[derive(Drop)]
+#[derive(Clone, Copy)]
 struct Ends {
     empty: bool,
     first: u64,
@@ -50,7 +52,7 @@ struct Ends {
 }
 
 // The masks of the instants so far, by place, and how many there are.
-#[derive(Drop)]
+#[derive(Clone, Copy)]
 struct Masks {
     count: u8,
     present: [u16; 64],

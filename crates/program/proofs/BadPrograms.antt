@@ -14,7 +14,6 @@ use Rattle.effect.specs.Refusals.{lowest, one_if_instant, instants}
 use Rattle.effect.proofs.Examples.{instant-trace}
 use Rattle.sheet.specs.Bits.{digits, each, field, fields}
 use Rattle.sheet.specs.Sheet.{signals_in, count_in, nodes_in, header_refusal, read_refusal}
-use Rattle.goals.specs.Run.{State}
 use Rattle.goals.specs.Refusals.{Against, against, first}
 use Rattle.demands.specs.Demands.{LeftTrace, RightTrace, row_of, Reaches, most}
 use Rattle.program.specs.Lines.{ascii, digit, decimal_in, letter, letters, side_text, counts_line, trace_line, refused_line, ended_lines}

@@ -1,4 +1,6 @@
 // The packed effect sheet: its reader and its writer.
+#![tactic(auto)]
+
 ghost use Rattle.std.specs.Prelude.{◌≡◌, [], ◌∷◌, ◌*◌, ◌<◌, ◌≤◌, ltb, length, get_or};
 ghost use Rattle.effect.specs.Refusals.{rule, front};
 ghost use Rattle.sheet.specs.Bits.{each, field, fields};
@@ -8,14 +10,14 @@ ghost use Rattle.sheet.specs.Promises.{LengthByHeaderIs, RefusalOfIs};
 use effect::{Checked, Refusal};
 
 // What reading a sheet answers: s and the number of nodes, or the refusal.
-#[derive(Drop)]
+#[derive(Clone, Copy)]
 pub enum Reading {
     Accepted(u8, usize),
     Refused(Refusal),
 }
 
 // What writing a sheet answers: its length in bytes, or the refusal.
-#[derive(Drop)]
+#[derive(Clone, Copy)]
 pub enum Writing {
     Accepted(usize),
     Refused(Refusal),

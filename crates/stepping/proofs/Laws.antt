@@ -1,7 +1,7 @@
 -- The goals of a row one after the other: a letter without goals is passed, and the lowest member comes first.
-use Prim.Native.Nat.{ℕ, zero, suc, ◌+◌, ◌-◌, ◌^◌, ◌≤◌, ◌<◌, min}
+use Prim.Native.Nat.{ℕ, zero, suc, ◌+◌, ◌-◌, ◌^◌, ◌≤◌, ◌<◌}
 use mathlib.Core.Path.{◌≡◌, refl, sym, ap, ap₂, subst, ◌∙◌}
-use mathlib.Core.Bool.{Bool, true, false, cond, not, false≢true}
+use mathlib.Core.Bool.{Bool, true, false, cond}
 use mathlib.Core.Logic.{⊎_elim}
 use mathlib.Core.List.{List, [], ◌∷◌, ◌++◌, append-nil, append_assoc}
 use native.Mathlib.Nat.{eq-or-lt_of_le, le_of_suc-le-suc}
@@ -12,13 +12,12 @@ use lib.Dec.{eqb}
 use borrow.Author.Tests.{eq-eqb, ne_eqb, eqb-true, eqb-false, lt-ltb}
 use Rattle.bits.specs.Bit.{bit, Mem, has, single}
 use Rattle.bits.proofs.Laws.{bit-zero, mem-dec, mem-pow, mem-without, mem-lt, set-ext, mem-zero}
-use Rattle.effect.proofs.Laws.{not_none}
 use Rattle.places.specs.Matching.{matching_by}
 use Rattle.goals.specs.declared.Row.{Row}
 use Rattle.goals.specs.Goals.{row, each_member, each_letter}
 use Rattle.stepping.specs.declared.Source.{Source}
 use Rattle.stepping.specs.declared.Cursor.{Cursor}
-use Rattle.stepping.specs.Next.{members_at, set_at, letters_in, lowest_from, lowest_member, at_letter, at_goal, taken, next_goal}
+use Rattle.stepping.specs.Next.{members_at, set_at, letters_in, lowest_from, lowest_member, at_letter, at_goal, taken}
 use Rattle.stepping.specs.Rest.{goals_with, goals_for, letters_from, all_goals, rest, rest_of}
 use Rattle.stepping.specs.declared.Next.{Next}
 use Rattle.stepping.specs.declared.Next.TheVariants as next-variants

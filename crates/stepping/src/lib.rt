@@ -1,4 +1,6 @@
 // The goals of a row, one after the other, by value: no column in sight.
+#![tactic(auto)]
+
 ghost use Rattle.std.specs.Prelude.{◌≡◌, ℕ, ◌-◌, ◌<◌, min};
 ghost use Rattle.bits.specs.Bit.{Mem};
 ghost use Rattle.stepping.specs.Next.{letters_in, lowest_member, at_letter, at_goal};
@@ -10,7 +12,7 @@ use places::Naming;
 
 // What the goals of a row are made of: of the call s, how many letters there are (a caller's 2^s) and for each side which places name a
 // signal; of the row what follows it on the left and on the right, and its number.
-#[derive(Drop)]
+#[derive(Clone, Copy)]
 pub struct Source {
     pub s: u8,
     pub letters: u32,
@@ -22,7 +24,7 @@ pub struct Source {
 }
 
 // Where the goals of a row stand: the letters from x on are still to come, and these members of the letter before.
-#[derive(Drop)]
+#[derive(Clone, Copy)]
 pub struct Cursor {
     pub x: u32,
     pub letter: u16,
@@ -31,7 +33,7 @@ pub struct Cursor {
 }
 
 // The next goal of a row and where the goals then stand, or none.
-#[derive(Drop)]
+#[derive(Clone, Copy)]
 pub enum Next {
     Goal(Row, Cursor),
     Done,

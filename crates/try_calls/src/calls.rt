@@ -7,6 +7,7 @@ use columns::{Called, Tracing};
 use compare::{Answered, Work};
 use goals::{Row, Run};
 use own_table::Told;
+use std::io;
 
 // The kinds of calls, by their numbers in a record; main.rt says what each does.
 const START: u32 = 0;
@@ -42,7 +43,7 @@ const NO_CALL: u32 = 13;
 const LONGEST_TRACE: u32 = 512;
 
 // What a call is made on besides the columns: both sides, how many rows are lent, and the record of the run.
-#[derive(Drop)]
+#[derive(Clone, Copy)]
 pub(crate) struct State {
     pub(crate) asked: Asked,
     pub(crate) lent: usize,
@@ -51,7 +52,7 @@ pub(crate) struct State {
 
 // A call, taken apart: its kind; the byte and the length in its head; its numbers a and b, apart and as one;
 // its number c; and the rows that it forges or shows, from `from` on, below `to`.
-#[derive(Drop)]
+#[derive(Clone, Copy)]
 struct Call {
     kind: u32,
     byte: u8,
@@ -143,35 +144,35 @@ fn forge_rows(
 }
 
 // A line begins with the name of its call.
-fn show_name(kind: u32) {
+fn show_name(rt: &impl Print, kind: u32) -> io::Result<()> {
     match kind {
-        START | START_ON_ROWS => print::word(b"start"),
-        _ => print::word(b"run"),
+        START | START_ON_ROWS => print::word(rt, b"start"),
+        _ => print::word(rt, b"run"),
     }
 }
 
-fn show_told(told: Told) {
+fn show_told(rt: &impl Print, told: Told) -> io::Result<()> {
     let run = told.run;
     let answer = told.answer;
     match answer {
-        Answered::Accepted => print::run(run),
+        Answered::Accepted => print::run(rt, run),
         Answered::Refused(why) => {
-            print::refused(why);
-            print::word(b"\n");
+            print::refused(rt, why)?;
+            print::word(rt, b"\n")
         },
     }
 }
 
 // Prints what a start or run call told, and keeps its record.
-fn keep(state: State, call: Call, told: Told) -> State {
+fn keep(rt: &impl Print, state: State, call: Call, told: Told) -> io::Result<State> {
     let run = told.run;
-    show_name(call.kind);
-    show_told(told);
-    with_run(state, run)
+    show_name(rt, call.kind)?;
+    show_told(rt, told)?;
+    Ok(with_run(state, run))
 }
 
 // The same of what a call on columns answered: after a refusal the record is the old one.
-fn keep_answer(state: State, call: Call, answer: Called) -> State {
+fn keep_answer(rt: &impl Print, state: State, call: Call, answer: Called) -> io::Result<State> {
     let held = state.run;
     let told = match answer {
         Called::Accepted(run) => Told {
@@ -183,28 +184,29 @@ fn keep_answer(state: State, call: Call, answer: Called) -> State {
             answer: Answered::Refused(why),
         },
     };
-    keep(state, call, told)
+    keep(rt, state, call, told)
 }
 
 // A start or run call on columns.
 fn call_columns(
+    rt: &impl Print,
     places: &mut [u8],
     sets: &mut [u64],
     parents: &mut [u16],
     letters: &mut [u16],
     state: State,
     call: Call,
-) -> State {
+) -> io::Result<State> {
     let asked = state.asked;
     let held = state.run;
     if call.kind == START {
         let answer = columns::start_on(asked, state.lent, places, sets, parents, letters);
-        return keep_answer(state, call, answer);
+        return keep_answer(rt, state, call, answer);
     }
     let answer = columns::run_on(
         asked, state.lent, places, sets, parents, letters, held, call.ab,
     );
-    keep_answer(state, call, answer)
+    keep_answer(rt, state, call, answer)
 }
 
 // What a call on rows is to do.
@@ -218,31 +220,32 @@ fn work_of(call: Call) -> Work {
 
 // A start or run call on rows.
 fn call_rows(
+    rt: &impl Print,
     places: &mut [u8],
     sets: &mut [u64],
     parents: &mut [u16],
     letters: &mut [u16],
     state: State,
     call: Call,
-) -> State {
+) -> io::Result<State> {
     let asked = state.asked;
     let held = state.run;
     let work = work_of(call);
     let told = own_table::call_table(
         asked, state.lent, places, sets, parents, letters, held, work,
     );
-    keep(state, call, told)
+    keep(rt, state, call, told)
 }
 
 // Prints what a trace call answered, and the n bytes that it was lent of the buffer.
-fn show_tracing(answer: Tracing, out: [u8; 512], n: usize) {
-    print::word(b"trace");
+fn show_tracing(rt: &impl Print, answer: Tracing, out: [u8; 512], n: usize) -> io::Result<()> {
+    print::word(rt, b"trace")?;
     match answer {
-        Tracing::Accepted(length) => print::decimal(b" length ", length as u64),
-        Tracing::Refused(why) => print::refused(why),
+        Tracing::Accepted(length) => print::decimal(rt, b" length ", length as u64)?,
+        Tracing::Refused(why) => print::refused(rt, why)?,
     }
     let lent = hex::within(n, &out);
-    print::bytes(b" out", &out[..lent]);
+    print::bytes(rt, b" out", &out[..lent])
 }
 
 // What a trace is written to: ee in each byte beforehand.
@@ -254,13 +257,14 @@ fn buffer() -> [u8; 512]
 
 // A trace call on columns.
 fn trace_columns(
+    rt: &impl Print,
     places: &[u8],
     sets: &[u64],
     parents: &[u16],
     letters: &[u16],
     state: State,
     call: Call,
-) {
+) -> io::Result<()> {
     let asked = state.asked;
     let held = state.run;
     let mut out = buffer();
@@ -275,18 +279,19 @@ fn trace_columns(
         held,
         &mut out[..n],
     );
-    show_tracing(answer, out, n);
+    show_tracing(rt, answer, out, n)
 }
 
 // A trace call on rows.
 fn trace_rows(
+    rt: &impl Print,
     places: &[u8],
     sets: &[u64],
     parents: &[u16],
     letters: &[u16],
     state: State,
     call: Call,
-) {
+) -> io::Result<()> {
     let asked = state.asked;
     let held = state.run;
     let mut out = buffer();
@@ -301,41 +306,50 @@ fn trace_rows(
         held,
         &mut out[..n],
     );
-    show_tracing(answer, out, n);
+    show_tracing(rt, answer, out, n)
 }
 
 // A call that changes nothing: a trace, or rows to be shown. Any other kind is bad.
-fn look(places: &[u8], sets: &[u64], parents: &[u16], letters: &[u16], state: State, call: Call) {
+fn look(
+    rt: &impl Print,
+    places: &[u8],
+    sets: &[u64],
+    parents: &[u16],
+    letters: &[u16],
+    state: State,
+    call: Call,
+) -> io::Result<()> {
     let kind = call.kind;
     match kind {
-        TRACE => trace_columns(places, sets, parents, letters, state, call),
-        TRACE_ON_ROWS => trace_rows(places, sets, parents, letters, state, call),
-        SHOW => rows::show(places, sets, parents, letters, call.from, call.to),
-        _ => print::word(b"bad call\n"),
+        TRACE => trace_columns(rt, places, sets, parents, letters, state, call),
+        TRACE_ON_ROWS => trace_rows(rt, places, sets, parents, letters, state, call),
+        SHOW => rows::show(rt, places, sets, parents, letters, call.from, call.to),
+        _ => print::word(rt, b"bad call\n"),
     }
 }
 
 // Makes a call, and answers what the next is made on.
 fn make(
+    rt: &impl Print,
     places: &mut [u8],
     sets: &mut [u64],
     parents: &mut [u16],
     letters: &mut [u16],
     state: State,
     call: Call,
-) -> State {
+) -> io::Result<State> {
     let kind = call.kind;
     match kind {
-        START | RUN => return call_columns(places, sets, parents, letters, state, call),
+        START | RUN => return call_columns(rt, places, sets, parents, letters, state, call),
         START_ON_ROWS | RUN_ON_ROWS => {
-            return call_rows(places, sets, parents, letters, state, call);
+            return call_rows(rt, places, sets, parents, letters, state, call);
         },
-        FORGE_RECORD | LEND => return forge_run(state, call),
-        FORGE_SIDE | FORGE_WHY => return forge_sides(state, call),
+        FORGE_RECORD | LEND => return Ok(forge_run(state, call)),
+        FORGE_SIDE | FORGE_WHY => return Ok(forge_sides(state, call)),
         FORGE_ROW | REPEAT_ROW => forge_rows(places, sets, parents, letters, call),
-        _ => look(places, sets, parents, letters, state, call),
+        _ => look(rt, places, sets, parents, letters, state, call)?,
     }
-    state
+    Ok(state)
 }
 
 // Number i + k, 0 past the end.
@@ -398,20 +412,19 @@ fn call_at(calls: &[u32], i: usize) -> Call {
 
 // Makes the calls one after the other.
 pub(crate) fn make_all(
+    rt: &impl Print,
     places: &mut [u8],
     sets: &mut [u64],
     parents: &mut [u16],
     letters: &mut [u16],
     first: State,
     calls: &[u32],
-) {
+) -> io::Result<()> {
     let mut state = first;
     let n = calls.len() / 4;
-    let mut i: usize = 0;
-    while i < n {
+    for i in 0..n {
         let call = call_at(calls, 4 * i);
-        i += 1;
-        let next = make(places, sets, parents, letters, state, call);
-        state = next;
+        state = make(rt, places, sets, parents, letters, state, call)?;
     }
+    Ok(())
 }

@@ -18,7 +18,7 @@ const ABSENT: u8 = 4;
 const FOLLOW: u8 = 5;
 
 // What is forged of a side: which of its numbers, of which place where there are 64, and what it becomes.
-#[derive(Drop)]
+#[derive(Clone, Copy)]
 pub(crate) struct Field {
     pub(crate) of: u8,
     pub(crate) place: usize,

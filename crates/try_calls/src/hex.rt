@@ -1,6 +1,6 @@
 // A record as bytes: its line's hexadecimal digits, and the numbers that the bytes make.
 ghost use Rattle.std.specs.Prelude.{◌≡◌, length};
-ghost use Rattle.io.specs.Counts.{IsPrefixLen};
+ghost use Rattle.std.specs.Counts.{IsPrefixLen};
 
 use crate::at;
 

@@ -49,6 +49,8 @@
 // A line that begins with '#' is printed as it is. A line that is no record, or has more than 8,192 digits,
 // or asks for more than 300 nodes or 700 bytes (s and p) or for columns of more than 65,540 rows (g), ends
 // the run with the line `bad record`. No more than 131,072 bytes of input are read.
+#![tactic(auto)]
+
 mod at;
 mod calls;
 mod forge;
@@ -61,6 +63,11 @@ mod side;
 mod tables;
 
 ghost use Rattle.std.specs.Prelude.{◌≤◌, length};
+
+use std::io::{self, Read};
+
+// As many bytes of input as are read.
+const MOST_INPUT: u64 = 131072;
 
 // Where the line that starts at `from` ends: at its line feed, or with the input.
 fn line_end(input: &[u8], from: usize) -> usize
@@ -78,61 +85,62 @@ fn line_end(input: &[u8], from: usize) -> usize
 }
 
 // Hands a record's bytes to the part that its letter names, which says whether it is one.
-fn hand(letter: u8, bytes: &[u8]) -> bool {
+fn hand(rt: &impl Print, letter: u8, bytes: &[u8]) -> io::Result<bool> {
     match letter {
-        b's' => sheets::call(bytes),
-        b'p' => tables::call(bytes),
-        b'g' => record::call(bytes),
-        _ => false,
+        b's' => sheets::call(rt, bytes),
+        b'p' => tables::call(rt, bytes),
+        b'g' => record::call(rt, bytes),
+        _ => Ok(false),
     }
 }
 
 // The calls of a line that is a record.
-fn call_line(line: &[u8]) -> bool {
+fn call_line(rt: &impl Print, line: &[u8]) -> io::Result<bool> {
     if line.len() == 0 {
-        return false;
+        return Ok(false);
     }
     let mut bytes = hex::room();
     let k = hex::digits(&line[1..], &mut bytes);
     if k % 2 == 1 {
-        return false;
+        return Ok(false);
     }
     let n = hex::within(k / 2, &bytes);
-    hand(line[0], &bytes[..n])
+    hand(rt, line[0], &bytes[..n])
 }
 
 // Prints the answer to a line, and says whether to go on.
-fn answer(line: &[u8]) -> bool {
+fn answer(rt: &impl Print, line: &[u8]) -> io::Result<bool> {
     if at::byte(line, 0) == b'#' {
-        print::word(line);
-        print::word(b"\n");
-        return true;
+        print::word(rt, line)?;
+        print::word(rt, b"\n")?;
+        return Ok(true);
     }
-    let is_record = call_line(line);
+    let is_record = call_line(rt, line)?;
     if !is_record {
-        print::word(b"bad record\n");
+        print::word(rt, b"bad record\n")?;
     }
-    is_record
+    Ok(is_record)
 }
 
 // Answers line after line, up to the first that is no record.
-fn answer_all(input: &[u8]) {
+fn answer_all(rt: &impl Print, input: &[u8]) -> io::Result<()> {
     let mut from: usize = 0;
     while from < input.len() {
         let end = line_end(input, from);
-        let is_record = answer(&input[from..end]);
+        let is_record = answer(rt, &input[from..end])?;
         if !is_record {
-            return;
+            return Ok(());
         }
         if end == input.len() {
-            return;
+            return Ok(());
         }
         from = end + 1;
     }
+    Ok(())
 }
 
-fn main() {
-    let mut input: [u8; 131072] = [0; 131072];
-    let n = io::read_full(0, &mut input);
-    answer_all(&input[..n]);
+fn main(rt: HostRuntime) -> io::Result<()> {
+    let mut input = Vec::new(rt.alloc());
+    rt.stdin().take(MOST_INPUT).read_to_end(&mut input)?;
+    answer_all(&rt, &input)
 }

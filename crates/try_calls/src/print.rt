@@ -1,84 +1,81 @@
 // The pieces of an answer, written to standard output. Each has its name before it.
 use goals::{Run, SideRefusal, Which};
+use std::io;
 
-pub(crate) fn word(text: &[u8]) {
-    io::write_all(1, text);
+pub(crate) fn word(rt: &impl Print, text: &[u8]) -> io::Result<()> {
+    rt.write_all(text)
 }
 
 // n in decimal.
-pub(crate) fn decimal(name: &[u8], n: u64) {
-    word(name);
-    io::print_decimal(1, n);
+pub(crate) fn decimal(rt: &impl Print, name: &[u8], n: u64) -> io::Result<()> {
+    word(rt, name)?;
+    print!(rt; "{n}")
 }
 
 // x in so many hexadecimal digits.
-fn hex(name: &[u8], x: u64, digits: usize) {
-    word(name);
-    io::print_hex(1, x, digits);
+fn hex(rt: &impl Print, name: &[u8], x: u64, digits: usize) -> io::Result<()> {
+    word(rt, name)?;
+    print!(rt; "{x:0digits$x}")
 }
 
 // A byte in two hexadecimal digits.
-fn byte(name: &[u8], x: u8) {
-    hex(name, x as u64, 2);
+fn byte(rt: &impl Print, name: &[u8], x: u8) -> io::Result<()> {
+    hex(rt, name, x as u64, 2)
 }
 
 // A mask in four hexadecimal digits.
-pub(crate) fn mask(name: &[u8], x: u16) {
-    hex(name, x as u64, 4);
+pub(crate) fn mask(rt: &impl Print, name: &[u8], x: u16) -> io::Result<()> {
+    hex(rt, name, x as u64, 4)
 }
 
 // A node's number in eight hexadecimal digits.
-pub(crate) fn number(name: &[u8], x: u32) {
-    hex(name, x as u64, 8);
+pub(crate) fn number(rt: &impl Print, name: &[u8], x: u32) -> io::Result<()> {
+    hex(rt, name, x as u64, 8)
 }
 
 // A set of places in sixteen hexadecimal digits.
-pub(crate) fn set(name: &[u8], x: u64) {
-    hex(name, x, 16);
+pub(crate) fn set(rt: &impl Print, name: &[u8], x: u64) -> io::Result<()> {
+    hex(rt, name, x, 16)
 }
 
 // Ends the line.
-pub(crate) fn bytes(name: &[u8], all: &[u8]) {
-    word(name);
-    let mut i: usize = 0;
-    while i < all.len() {
-        byte(b" ", all[i]);
-        i += 1;
+pub(crate) fn bytes(rt: &impl Print, name: &[u8], all: &[u8]) -> io::Result<()> {
+    word(rt, name)?;
+    for x in all {
+        byte(rt, b" ", *x)?;
     }
-    word(b"\n");
+    word(rt, b"\n")
 }
 
 // Ends the line.
-pub(crate) fn numbers(name: &[u8], table: &[u32]) {
-    word(name);
-    let mut i: usize = 0;
-    while i < table.len() {
-        number(b" ", table[i]);
-        i += 1;
+pub(crate) fn numbers(rt: &impl Print, name: &[u8], table: &[u32]) -> io::Result<()> {
+    word(rt, name)?;
+    for x in table {
+        number(rt, b" ", *x)?;
     }
-    word(b"\n");
+    word(rt, b"\n")
 }
 
 // Ends the line.
-pub(crate) fn run(run: Run) {
-    decimal(b" settled ", run.settled as u64);
-    decimal(b" used ", run.used as u64);
-    decimal(b" outcome ", run.outcome as u64);
-    word(b"\n");
+pub(crate) fn run(rt: &impl Print, run: Run) -> io::Result<()> {
+    decimal(rt, b" settled ", run.settled as u64)?;
+    decimal(rt, b" used ", run.used as u64)?;
+    decimal(rt, b" outcome ", run.outcome as u64)?;
+    word(rt, b"\n")
 }
 
-fn side(side: Which) {
+fn side(rt: &impl Print, side: Which) -> io::Result<()> {
     match side {
-        Which::Left => word(b"left"),
-        Which::Right => word(b"right"),
-        Which::Both => word(b"both"),
+        Which::Left => word(rt, b"left"),
+        Which::Right => word(rt, b"right"),
+        Which::Both => word(rt, b"both"),
     }
 }
 
-pub(crate) fn refused(why: SideRefusal) {
+pub(crate) fn refused(rt: &impl Print, why: SideRefusal) -> io::Result<()> {
     let which = why.side;
     let refusal = why.refusal;
-    word(b" refused ");
-    side(which);
-    decimal(b" ", refusal.number as u64);
+    word(rt, b" refused ")?;
+    side(rt, which)?;
+    decimal(rt, b" ", refusal.number as u64)
 }

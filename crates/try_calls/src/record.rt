@@ -5,6 +5,7 @@ use crate::calls::State;
 use crate::{at, calls, hex};
 use asking::ask;
 use goals::Run;
+use std::io;
 
 // As many rows as a column may have.
 const ROWS: usize = 65540;
@@ -67,7 +68,13 @@ fn state_of(head: &[u32], left: &[u32], right: &[u32]) -> State {
 }
 
 // Makes the calls on columns that nothing wrote yet.
-fn make(head: &[u32], left: &[u32], right: &[u32], list: &[u32]) {
+fn make(
+    rt: &impl Print,
+    head: &[u32],
+    left: &[u32],
+    right: &[u32],
+    list: &[u32],
+) -> io::Result<()> {
     let p = rows_at(head, 4);
     let s = rows_at(head, 5);
     let q = rows_at(head, 6);
@@ -78,27 +85,28 @@ fn make(head: &[u32], left: &[u32], right: &[u32], list: &[u32]) {
     let mut parents = shorts();
     let mut letters = shorts();
     calls::make_all(
+        rt,
         &mut places[0..p],
         &mut sets[0..s],
         &mut parents[0..q],
         &mut letters[0..x],
         state,
         list,
-    );
+    )
 }
 
 // Takes a record apart: its head of eight numbers, the nodes of both sides, and the calls.
-fn parts(numbers: &[u32]) -> bool {
+fn parts(rt: &impl Print, numbers: &[u32]) -> io::Result<bool> {
     let n = 8 + (at::number(numbers, 0) % 65536) as usize;
     let m = n + (at::number(numbers, 1) % 65536) as usize;
     if numbers.len() < m {
-        return false;
+        return Ok(false);
     }
     if (numbers.len() - m) % 4 != 0 {
-        return false;
+        return Ok(false);
     }
-    make(numbers, &numbers[8..n], &numbers[n..m], &numbers[m..]);
-    true
+    make(rt, numbers, &numbers[8..n], &numbers[n..m], &numbers[m..])?;
+    Ok(true)
 }
 
 // Room for the numbers of the longest record.
@@ -110,15 +118,15 @@ fn room() -> [u32; 1024]
 
 // Makes the calls of a record, which has whole numbers, and says whether it is one. Where it is none,
 // nothing is printed.
-pub(crate) fn call(record: &[u8]) -> bool {
+pub(crate) fn call(rt: &impl Print, record: &[u8]) -> io::Result<bool> {
     if record.len() % 4 != 0 {
-        return false;
+        return Ok(false);
     }
     let mut numbers = room();
     hex::numbers(record, &mut numbers);
     if !columns_fit(&numbers) {
-        return false;
+        return Ok(false);
     }
     let n = hex::entries(record.len() / 4, &numbers);
-    parts(&numbers[..n])
+    parts(rt, &numbers[..n])
 }

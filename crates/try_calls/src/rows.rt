@@ -1,6 +1,7 @@
 // The columns of a record, row by row. A row may lie beyond the end of some column.
 use crate::{at, print};
 use goals::Row;
+use std::io;
 
 fn put_byte(column: &mut [u8], i: usize, x: u8) {
     if i < column.len() {
@@ -69,44 +70,51 @@ pub(crate) fn before(
 }
 
 // A row's number in a column, where the column has the row.
-fn show_number(there: bool, x: u64) {
+fn show_number(rt: &impl Print, there: bool, x: u64) -> io::Result<()> {
     if there {
-        print::decimal(b" ", x);
+        print::decimal(rt, b" ", x)
     } else {
-        print::word(b" -");
+        print::word(rt, b" -")
     }
 }
 
-fn show_set(column: &[u64], i: usize) {
+fn show_set(rt: &impl Print, column: &[u64], i: usize) -> io::Result<()> {
     if i < column.len() {
-        print::set(b" ", at::set(column, i));
+        print::set(rt, b" ", at::set(column, i))
     } else {
-        print::word(b" -");
+        print::word(rt, b" -")
     }
 }
 
-fn show_row(places: &[u8], sets: &[u64], parents: &[u16], letters: &[u16], i: usize) {
-    print::decimal(b"row ", i as u64);
-    print::word(b":");
-    show_number(i < places.len(), at::byte(places, i) as u64);
-    show_set(sets, i);
-    show_number(i < parents.len(), at::short(parents, i) as u64);
-    show_number(i < letters.len(), at::short(letters, i) as u64);
-    print::word(b"\n");
+fn show_row(
+    rt: &impl Print,
+    places: &[u8],
+    sets: &[u64],
+    parents: &[u16],
+    letters: &[u16],
+    i: usize,
+) -> io::Result<()> {
+    print::decimal(rt, b"row ", i as u64)?;
+    print::word(rt, b":")?;
+    show_number(rt, i < places.len(), at::byte(places, i) as u64)?;
+    show_set(rt, sets, i)?;
+    show_number(rt, i < parents.len(), at::short(parents, i) as u64)?;
+    show_number(rt, i < letters.len(), at::short(letters, i) as u64)?;
+    print::word(rt, b"\n")
 }
 
 // The rows from `from` on, below `to`, a line each; '-' where a column has no such row.
 pub(crate) fn show(
+    rt: &impl Print,
     places: &[u8],
     sets: &[u64],
     parents: &[u16],
     letters: &[u16],
     from: usize,
     to: usize,
-) {
-    let mut i = from;
-    while i < to {
-        show_row(places, sets, parents, letters, i);
-        i += 1;
+) -> io::Result<()> {
+    for i in from..to {
+        show_row(rt, places, sets, parents, letters, i)?;
     }
+    Ok(())
 }

@@ -5,6 +5,7 @@ ghost use Rattle.std.specs.Prelude.{◌≡◌, length};
 use crate::{at, hex, print};
 use effect::{Checked, Decoded, Node, Numbered, Refusal};
 use sheet::{Reading, Writing};
+use std::io;
 
 // As many bytes as a record may ask for. Document 01's longest sheet has 608.
 fn output() -> [u8; 700]
@@ -24,145 +25,145 @@ fn mark(table: &mut [u32]) {
     }
 }
 
-fn accepted(n: u64) {
-    print::decimal(b" accepted ", n);
+fn accepted(rt: &impl Print, n: u64) -> io::Result<()> {
+    print::decimal(rt, b" accepted ", n)
 }
 
-fn refused(why: Refusal) {
-    print::decimal(b" refused ", why.number as u64);
+fn refused(rt: &impl Print, why: Refusal) -> io::Result<()> {
+    print::decimal(rt, b" refused ", why.number as u64)
 }
 
-fn print_reading(answer: Reading) {
+fn print_reading(rt: &impl Print, answer: Reading) -> io::Result<()> {
     match answer {
         Reading::Accepted(s, n) => {
-            accepted(s as u64);
-            print::decimal(b" ", n as u64);
+            accepted(rt, s as u64)?;
+            print::decimal(rt, b" ", n as u64)
         }
-        Reading::Refused(why) => refused(why),
+        Reading::Refused(why) => refused(rt, why),
     }
 }
 
-fn read_to(sheet: &[u8], table: &mut [u32]) {
+fn read_to(rt: &impl Print, sheet: &[u8], table: &mut [u32]) -> io::Result<()> {
     mark(table);
     let answer = sheet::read(sheet, table);
-    print::word(b"read");
-    print_reading(answer);
-    print::numbers(b" table", table);
+    print::word(rt, b"read")?;
+    print_reading(rt, answer)?;
+    print::numbers(rt, b" table", table)
 }
 
 // 00 LLLL TTTT sheet
-fn read(record: &[u8]) -> bool {
+fn read(rt: &impl Print, record: &[u8]) -> io::Result<bool> {
     let length = hex::pair(at::byte(record, 1), at::byte(record, 2)) as usize;
     let asked = hex::pair(at::byte(record, 3), at::byte(record, 4)) as usize;
     if record.len() < 5 {
-        return false;
+        return Ok(false);
     }
     if record.len() - 5 != length {
-        return false;
+        return Ok(false);
     }
     let mut table = hex::table();
     let lent = hex::entries(asked, &table);
     if lent < asked {
-        return false;
+        return Ok(false);
     }
-    read_to(&record[5..], &mut table[..lent]);
-    true
+    read_to(rt, &record[5..], &mut table[..lent])?;
+    Ok(true)
 }
 
-fn print_writing(answer: Writing) {
+fn print_writing(rt: &impl Print, answer: Writing) -> io::Result<()> {
     match answer {
-        Writing::Accepted(length) => accepted(length as u64),
-        Writing::Refused(why) => refused(why),
+        Writing::Accepted(length) => accepted(rt, length as u64),
+        Writing::Refused(why) => refused(rt, why),
     }
 }
 
-fn write_to(s: u8, nodes: &[u32], sheet: &mut [u8]) {
+fn write_to(rt: &impl Print, s: u8, nodes: &[u32], sheet: &mut [u8]) -> io::Result<()> {
     let answer = sheet::write(s, nodes, sheet);
-    print::word(b"write");
-    print_writing(answer);
-    print::bytes(b" out", sheet);
+    print::word(rt, b"write")?;
+    print_writing(rt, answer)?;
+    print::bytes(rt, b" out", sheet)
 }
 
 // 01 SS NNNN OOOO nodes
-fn write(record: &[u8]) -> bool {
+fn write(rt: &impl Print, record: &[u8]) -> io::Result<bool> {
     let asked = hex::pair(at::byte(record, 4), at::byte(record, 5)) as usize;
     let mut nodes = hex::table();
     let are_nodes = hex::nodes(record, 6, &mut nodes);
     if !are_nodes {
-        return false;
+        return Ok(false);
     }
     let mut sheet = output();
     let lent = hex::within(asked, &sheet);
     if lent < asked {
-        return false;
+        return Ok(false);
     }
     let n = hex::entries(hex::count(record) as usize, &nodes);
-    write_to(at::byte(record, 1), &nodes[..n], &mut sheet[..lent]);
-    true
+    write_to(rt, at::byte(record, 1), &nodes[..n], &mut sheet[..lent])?;
+    Ok(true)
 }
 
-fn print_checked(answer: Checked) {
+fn print_checked(rt: &impl Print, answer: Checked) -> io::Result<()> {
     match answer {
-        Checked::Accepted(instants) => accepted(instants as u64),
-        Checked::Refused(why) => refused(why),
+        Checked::Accepted(instants) => accepted(rt, instants as u64),
+        Checked::Refused(why) => refused(rt, why),
     }
 }
 
 // 02 SS NNNN nodes
-fn check(record: &[u8]) -> bool {
+fn check(rt: &impl Print, record: &[u8]) -> io::Result<bool> {
     let mut nodes = hex::table();
     let are_nodes = hex::nodes(record, 4, &mut nodes);
     if !are_nodes {
-        return false;
+        return Ok(false);
     }
     let n = hex::entries(hex::count(record) as usize, &nodes);
     let answer = effect::check(at::byte(record, 1), &nodes[..n]);
-    print::word(b"check");
-    print_checked(answer);
-    print::word(b"\n");
-    true
+    print::word(rt, b"check")?;
+    print_checked(rt, answer)?;
+    print::word(rt, b"\n")?;
+    Ok(true)
 }
 
 // A kind, by document 01's number, and the two fields.
-fn print_fields(kind: u64, a: u16, b: u16) {
-    print::decimal(b" ", kind);
-    print::decimal(b" ", a as u64);
-    print::decimal(b" ", b as u64);
+fn print_fields(rt: &impl Print, kind: u64, a: u16, b: u16) -> io::Result<()> {
+    print::decimal(rt, b" ", kind)?;
+    print::decimal(rt, b" ", a as u64)?;
+    print::decimal(rt, b" ", b as u64)
 }
 
-fn print_node(node: Node) {
+fn print_node(rt: &impl Print, node: Node) -> io::Result<()> {
     match node {
-        Node::Nil => print_fields(0, 0, 0),
-        Node::Empty => print_fields(1, 0, 0),
-        Node::Instant(a, b) => print_fields(2, a, b),
-        Node::Seq(a, b) => print_fields(3, a, b),
-        Node::Choice(a, b) => print_fields(4, a, b),
-        Node::Repeat(a) => print_fields(5, a, 0),
+        Node::Nil => print_fields(rt, 0, 0, 0),
+        Node::Empty => print_fields(rt, 1, 0, 0),
+        Node::Instant(a, b) => print_fields(rt, 2, a, b),
+        Node::Seq(a, b) => print_fields(rt, 3, a, b),
+        Node::Choice(a, b) => print_fields(rt, 4, a, b),
+        Node::Repeat(a) => print_fields(rt, 5, a, 0),
     }
 }
 
-fn print_numbered(answer: Numbered) {
+fn print_numbered(rt: &impl Print, answer: Numbered) -> io::Result<()> {
     match answer {
-        Numbered::Of(x) => print::number(b" ", x),
-        Numbered::Wide => print::word(b" none"),
+        Numbered::Of(x) => print::number(rt, b" ", x),
+        Numbered::Wide => print::word(rt, b" none"),
     }
 }
 
-fn print_decoded(answer: Decoded) {
+fn print_decoded(rt: &impl Print, answer: Decoded) -> io::Result<()> {
     match answer {
         Decoded::Is(node) => {
-            print_node(node);
-            print::word(b" number");
-            print_numbered(effect::number(node));
+            print_node(rt, node)?;
+            print::word(rt, b" number")?;
+            print_numbered(rt, effect::number(node))
         }
-        Decoded::None => print::word(b" none"),
+        Decoded::None => print::word(rt, b" none"),
     }
 }
 
 // 03 XXXXXXXX
-fn decode(record: &[u8]) -> bool {
+fn decode(rt: &impl Print, record: &[u8]) -> io::Result<bool> {
     if record.len() != 5 {
-        return false;
+        return Ok(false);
     }
     let x = hex::four(
         at::byte(record, 1),
@@ -170,10 +171,10 @@ fn decode(record: &[u8]) -> bool {
         at::byte(record, 3),
         at::byte(record, 4),
     );
-    print::word(b"decode");
-    print_decoded(effect::decode(x));
-    print::word(b"\n");
-    true
+    print::word(rt, b"decode")?;
+    print_decoded(rt, effect::decode(x))?;
+    print::word(rt, b"\n")?;
+    Ok(true)
 }
 
 fn node_of(kind: u8, a: u16, b: u16) -> Node {
@@ -188,26 +189,26 @@ fn node_of(kind: u8, a: u16, b: u16) -> Node {
 }
 
 // 04 KK AAAA BBBB
-fn number(record: &[u8]) -> bool {
+fn number(rt: &impl Print, record: &[u8]) -> io::Result<bool> {
     if record.len() != 6 {
-        return false;
+        return Ok(false);
     }
     let a = hex::pair(at::byte(record, 2), at::byte(record, 3));
     let b = hex::pair(at::byte(record, 4), at::byte(record, 5));
     let node = node_of(at::byte(record, 1), a, b);
-    print::word(b"number");
-    print_numbered(effect::number(node));
-    print::word(b"\n");
-    true
+    print::word(rt, b"number")?;
+    print_numbered(rt, effect::number(node))?;
+    print::word(rt, b"\n")?;
+    Ok(true)
 }
 
-pub(crate) fn call(record: &[u8]) -> bool {
+pub(crate) fn call(rt: &impl Print, record: &[u8]) -> io::Result<bool> {
     match at::byte(record, 0) {
-        0 => read(record),
-        1 => write(record),
-        2 => check(record),
-        3 => decode(record),
-        4 => number(record),
-        _ => false,
+        0 => read(rt, record),
+        1 => write(rt, record),
+        2 => check(rt, record),
+        3 => decode(rt, record),
+        4 => number(rt, record),
+        _ => Ok(false),
     }
 }

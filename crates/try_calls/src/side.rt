@@ -1,27 +1,34 @@
 // A side in print: all that it holds.
 use crate::{at, print};
 use places::Side;
+use std::io;
 
-fn show_place(j: usize, present: u16, absent: u16, follow: u64) {
-    print::decimal(b"place ", j as u64);
-    print::mask(b" present ", present);
-    print::mask(b" absent ", absent);
-    print::set(b" follow ", follow);
-    print::word(b"\n");
+fn show_place(rt: &impl Print, j: usize, present: u16, absent: u16, follow: u64) -> io::Result<()> {
+    print::decimal(rt, b"place ", j as u64)?;
+    print::mask(rt, b" present ", present)?;
+    print::mask(rt, b" absent ", absent)?;
+    print::set(rt, b" follow ", follow)?;
+    print::word(rt, b"\n")
 }
 
-fn show_places(count: u8, present: [u16; 64], absent: [u16; 64], follow: [u64; 64]) {
-    let mut j: u8 = 0;
-    while j < count {
-        j += 1;
-        let k = j as usize;
+fn show_places(
+    rt: &impl Print,
+    count: u8,
+    present: [u16; 64],
+    absent: [u16; 64],
+    follow: [u64; 64],
+) -> io::Result<()> {
+    for j in 0..count {
+        let k = j as usize + 1;
         show_place(
+            rt,
             k,
             at::short(&present, k),
             at::short(&absent, k),
             at::set(&follow, k),
-        );
+        )?;
     }
+    Ok(())
 }
 
 fn joined(present: u16, absent: u16) -> u64 {
@@ -39,21 +46,21 @@ fn rest(count: u8, present: [u16; 64], absent: [u16; 64], follow: [u64; 64]) -> 
     all
 }
 
-fn show_head(side: Side) {
+fn show_head(rt: &impl Print, side: Side) -> io::Result<()> {
     let follow = side.follow;
-    print::decimal(b"s ", side.s as u64);
-    print::decimal(b" places ", side.count as u64);
-    print::decimal(b" empty ", side.accepts % 2);
-    print::set(b" accepts ", side.accepts);
-    print::set(b" first ", follow[0]);
-    print::word(b"\n");
+    print::decimal(rt, b"s ", side.s as u64)?;
+    print::decimal(rt, b" places ", side.count as u64)?;
+    print::decimal(rt, b" empty ", side.accepts % 2)?;
+    print::set(rt, b" accepts ", side.accepts)?;
+    print::set(rt, b" first ", follow[0])?;
+    print::word(rt, b"\n")
 }
 
-pub(crate) fn show(side: Side) {
+pub(crate) fn show(rt: &impl Print, side: Side) -> io::Result<()> {
     let present = side.present;
     let absent = side.absent;
     let follow = side.follow;
-    show_head(side);
-    show_places(side.count, present, absent, follow);
-    print::set(b"rest ", rest(side.count, present, absent, follow));
+    show_head(rt, side)?;
+    show_places(rt, side.count, present, absent, follow)?;
+    print::set(rt, b"rest ", rest(side.count, present, absent, follow))
 }

@@ -1,7 +1,9 @@
 // The program's answer: from the bytes of the input to the bytes of the output.
+#![tactic(auto)]
+
 ghost use Rattle.std.specs.Prelude.{◌≡◌, ◌+◌, ◌*◌, ◌<◌, ◌≤◌, length};
 ghost use Rattle.goals.specs.Refusals.{given, side_number, against, against_of};
-ghost use Rattle.columns.specs.Calls.{here, before, after, lent_in};
+ghost use Rattle.columns.specs.Calls.{columns, lent_in};
 ghost use Rattle.program.specs.Lines.{digit, decimal, letter, letters, outcome_line, counts_line, trace_line, side_text, refused_line, ended_lines};
 ghost use Rattle.program.specs.Program.{ended_on, trace_in, lines_of};
 ghost use Rattle.verdict.specs.Prints.{Prints};
@@ -18,7 +20,7 @@ const ROOM: usize = 1024;
 const STEPS: u64 = 1024;
 
 // What is printed: the first `len` of the bytes.
-#[derive(Drop)]
+#[derive(Clone, Copy)]
 pub struct Lines {
     pub bytes: [u8; 4096],
     pub len: usize,
@@ -159,9 +161,9 @@ fn decide(
     parents: &mut [u16],
     letters: &mut [u16],
 ) -> Called
-    requires { lent_in 1024 (here places sets parents letters) ≡ 1024 }
+    requires { lent_in 1024 (columns places.old sets.old parents.old letters.old) ≡ 1024 }
     ensures { let g = given ls left.now rs right.now in
-        Decides g (before places sets parents letters) result (after places sets parents letters) }
+        Decides g (columns places.old sets.old parents.old letters.old) result (columns places.new sets.new parents.new letters.new) }
 {
     let asked = ask(ls, left, rs, right);
     let begun = start_on(asked, ROOM, places, sets, parents, letters);
@@ -185,7 +187,7 @@ fn put_trace_of(
     at: usize,
     out: &mut [u8],
 ) -> usize
-    requires ended { Ended (given ls left.now rs right.now) (here places sets parents letters) held }
+    requires ended { Ended (given ls left.now rs right.now) (columns places.now sets.now parents.now letters.now) held }
     requires refuted { (held.outcome ≡ 2) × (at + 3078 ≤ length out.old) }
     ensures { Puts (trace_line (trace_in (given ls left.now rs right.now))) at out.old result out.new }
 {
@@ -211,7 +213,7 @@ fn put_ended(
     held: Run,
     out: &mut [u8],
 ) -> usize
-    requires ended { Ended (given ls left.now rs right.now) (here places sets parents letters) held }
+    requires ended { Ended (given ls left.now rs right.now) (columns places.now sets.now parents.now letters.now) held }
     requires long { 4096 ≤ length out.old }
     ensures { Puts (ended_lines (ended_on (given ls left.now rs right.now))) 0 out.old result out.new }
 {
