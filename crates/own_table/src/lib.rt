@@ -114,7 +114,8 @@ pub fn call_table(
     held: Run,
     work: Work,
 ) -> Told
-    ensures { CallsTable work asked lent (columns places.old sets.old parents.old letters.old) held result (columns places.new sets.new parents.new letters.new) }
+    ensures { let c = columns places.old sets.old parents.old letters.old in
+        CallsTable work asked lent c held result (columns places.new sets.new parents.new letters.new) }
 {
     let n = rows_lent(lent, places.len(), sets.len(), parents.len(), letters.len());
     let table = table_of(places, sets, parents, letters, n);
