@@ -62,12 +62,24 @@ mod sheets;
 mod side;
 mod tables;
 
-ghost use Rattle.std.specs.Prelude.{◌≤◌, length};
+ghost use Rattle.std.specs.Prelude.{IfOk, ◌≤◌, length};
 
 use std::io::{self, Read};
 
-// As many bytes of input as are read.
-const MOST_INPUT: u64 = 131072;
+// Reads until the room or the input ends, and says how many bytes there were.
+fn read_full(from: &mut impl Read, room: &mut [u8]) -> io::Result<usize>
+    ensures { IfOk result (λ n. n ≤ length room.new) }
+{
+    let mut n: usize = 0;
+    for _ in 0..room.len() {
+        let read = from.read(&mut room[n..])?;
+        if read == 0 {
+            return Ok(n);
+        }
+        n += read;
+    }
+    Ok(n)
+}
 
 // Where the line that starts at `from` ends: at its line feed, or with the input.
 fn line_end(input: &[u8], from: usize) -> usize
@@ -140,7 +152,7 @@ fn answer_all(rt: &impl Print, input: &[u8]) -> io::Result<()> {
 }
 
 fn main(rt: HostRuntime) -> io::Result<()> {
-    let mut input = Vec::new(rt.alloc());
-    rt.stdin().take(MOST_INPUT).read_to_end(&mut input)?;
-    answer_all(&rt, &input)
+    let mut input: [u8; 131072] = [0; 131072];
+    let n = read_full(&mut rt.stdin(), &mut input)?;
+    answer_all(&rt, &input[..n])
 }
