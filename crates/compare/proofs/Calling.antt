@@ -1,5 +1,5 @@
 -- The promises of the calls on rows, from those of the calls on columns: the columns were loaded with the used rows, and the rows that
--- the core leaves were stored at the front of the table. Each law has the shape that the walk of its call ends with.
+-- the core leaves were stored at the front of the table. Each law has the shape that the proof of its call ends with.
 use Prim.Native.Nat.{ℕ, zero, suc, ◌≤◌, min}
 use mathlib.Core.Path.{◌≡◌, refl, sym, ap, subst, ◌∙◌}
 use mathlib.Core.Bool.{Bool, true, false, cond, ◌||◌}

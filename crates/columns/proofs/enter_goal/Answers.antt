@@ -1,5 +1,4 @@
 -- `columns::enter_goal`: the three cases of entering (`enters-known`, `enters-full`, `enters-next`).
--- where the function began, seen from where `is_known` answered, and the columns as they were lent
 use mathlib.Core.Path.{◌≡◌, sym, ◌∙◌}
 use native.Mathlib.Omega.{arith}
 use Rattle.columns.specs.Calls.{columns, rows_in}

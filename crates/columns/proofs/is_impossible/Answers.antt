@@ -1,5 +1,4 @@
 -- `columns::is_impossible`. The record decides first, then row 0, then the other rows.
--- where the function began, seen from where the record was asked after, and the columns
 use mathlib.Core.Path.{◌≡◌, sym, ap, ◌∙◌}
 use mathlib.Core.Bool.{false}
 use native.Mathlib.Nat.{le_trans}

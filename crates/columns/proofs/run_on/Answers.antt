@@ -1,5 +1,4 @@
 -- `columns::run_on`. Refused, or what `run_sides` leaves.
--- where the function began, seen from where the rows lent were counted, and the columns
 use Prim.Native.Nat.{ℕ}
 use mathlib.Core.Path.{◌≡◌, ap, ◌∙◌}
 use native.Mathlib.Omega.{arith}

@@ -1,5 +1,4 @@
 -- `columns::run_refusal`. Refused for the sides, refused for the record or its rows, or not.
--- where the function began, seen from where the sides were judged, and the columns; where they were judged, seen from where the room is known
 use Prim.Native.Nat.{ℕ}
 use mathlib.Core.Path.{◌≡◌, ap, ◌∙◌}
 use Rattle.goals.specs.Refusals.{impossible}

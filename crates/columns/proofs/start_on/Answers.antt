@@ -1,5 +1,4 @@
 -- `columns::start_on`. Refused for a side, refused for no rows, or row 0 at the front of the columns.
--- where the function began, seen from where the sides were judged, and what was asked and lent
 use mathlib.Core.Path.{sym, ◌∙◌}
 use Rattle.columns.specs.Calls.{columns}
 use Rattle.columns.proofs.Calling.{start-sides, start_none, start-done}

@@ -1,5 +1,4 @@
 -- `columns::step_on`: a bad row ends the run (`step-bad`), any other is settled or finds no room (`step-next`).
--- where the function began, seen from where the row was asked after, and the columns as they were lent
 use native.Mathlib.Omega.{arith}
 use Rattle.columns.specs.Calls.{columns}
 use Rattle.columns.proofs.Stepping.{step-bad, step-next, enters-most}

@@ -1,5 +1,4 @@
 -- `columns::trace_on`. Refused as it was opened, for 17 or 18, or the way to the refuted row at the front of the buffer.
--- where the function began, seen from where a refusal was asked after, and the columns
 use Prim.Native.Nat.{ℕ, ◌<◌}
 use mathlib.Core.List.{[]}
 use mathlib.Core.Path.{◌≡◌, sym, ap, subst, ◌∙◌}

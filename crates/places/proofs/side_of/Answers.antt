@@ -1,5 +1,4 @@
 -- `places::side_of`: what the survey, the ends of the root and the follow sets make is the side (`Made`).
--- once the nodes are surveyed: the skeleton has room for them, and its first numbers are the numbered table
 use Prim.Native.Nat.{◌≤◌}
 use mathlib.Core.Path.{◌≡◌, sym}
 use native.Mathlib.Omega.{arith}
@@ -11,6 +10,7 @@ use Rattle.places.proofs.Made.{surveyable, some, walkable, skeleton-is, side-mad
 use Rattle.places.proofs.side_of.Goals as goal
 use Rattle.places.proofs.side_of.Goals.{After-survey-masks}
 
+-- once the nodes are surveyed: the skeleton has room for them, and its first numbers are the numbered table
 fits : (c : After-survey-masks) → length c.args.nodes.now ≤ length c.survey-masks.new.skeleton
 fits c =
     omega (arith, c.survey-masks.auto.skeleton, (surveyable c.args.s c.args.nodes.now c.requires).fits)

@@ -1,5 +1,4 @@
 -- `verdict::put_letter`: a space and two digits, one behind the other.
--- three bytes, one behind the other
 use Prim.Native.Nat.{ℕ, ◌+◌, ◌≤◌}
 use mathlib.Core.Path.{◌≡◌, subst}
 use mathlib.Core.List.{List, [], ◌∷◌}
@@ -10,6 +9,7 @@ use Rattle.verdict.specs.Core.{Puts}
 use Rattle.verdict.proofs.Laws.{puts-both, puts-byte, puts-as}
 use Rattle.verdict.proofs.put_letter.Goals as goal
 
+-- three bytes, one behind the other
 puts-three :
     (x y z at : ℕ) (out : List ℕ) → at + 3 ≤ length out
     → Puts (x ∷ y ∷ z ∷ []) at out (at + 3) (set (set (set out at x) (at + 1) y) (at + 2) z)

@@ -1,5 +1,4 @@
 -- The loop has put the first i letters.
--- one letter more
 use Prim.Native.Nat.{ℕ, ◌+◌, ◌*◌, ◌<◌}
 use mathlib.Core.Path.{◌≡◌, refl, sym, ap, ◌∙◌}
 use mathlib.Core.List.{List, [], ◌∷◌, ◌++◌, append_assoc, append-nil}
@@ -12,6 +11,7 @@ use Rattle.program.specs.Lines.{ascii, letter, letters}
 use Rattle.verdict.proofs.Laws.{puts-both, puts-nothing, puts-as}
 use Rattle.verdict.proofs.put_letters.Goals as goal
 
+-- one letter more
 letters-append : (v w : List ℕ) → letters (v ++ w) ≡ letters v ++ letters w
 unfolding letters
 letters-append [] w = refl

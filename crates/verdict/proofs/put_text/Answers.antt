@@ -1,5 +1,4 @@
 -- The loop has put the first k bytes of the text.
--- one byte more
 use Prim.Native.Nat.{ℕ, ◌+◌, ◌≤◌, ◌<◌}
 use mathlib.Core.Path.{◌≡◌, refl, sym, ap, subst, ◌∙◌}
 use mathlib.Core.List.{List, [], ◌∷◌}
@@ -12,6 +11,7 @@ use Rattle.verdict.specs.Core.{Puts}
 use Rattle.verdict.proofs.Laws.{puts-both, puts-byte, puts-nothing, puts-as}
 use Rattle.verdict.proofs.put_text.Goals as goal
 
+-- one byte more
 next-byte :
     (text before out : List ℕ) (at k : ℕ) → at + length text ≤ length before → length out ≡ length before → k < length text
     → Puts (take k text) at before (at + k) out → Puts (take (k + 1) text) at before (at + (k + 1)) (set out (at + k) (get_or text k 0))

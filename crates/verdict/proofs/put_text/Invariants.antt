@@ -1,5 +1,4 @@
 -- The loop has put the first k bytes of the text.
--- one byte more
 use Prim.Native.Nat.{◌+◌, ◌-◌, ◌≤◌}
 use mathlib.Core.Path.{◌≡◌}
 use lib.ListN.{length, take}
