@@ -8,20 +8,22 @@ use lib.Dec.{eqb}
 use borrow.Author.Tests.{eq-eqb, ne_eqb, eqb-true, eqb-false}
 use Rattle.effect.specs.Node.{decodings, nodes_of}
 use Rattle.effect.specs.declared.Node.{Node}
-use Rattle.effect.specs.Refusals.{rule, side_refusal}
+use Rattle.std.proofs.Common.{Result, Ok, Err}
+use Rattle.effect.specs.declared.Refusal.{Refusal}
+use Rattle.effect.specs.Refusals.{rule, number_in, side_refusal}
 use Rattle.effect.proofs.Laws.{rule-none, not_none}
 use Rattle.effect.proofs.Accepted.{accepted-iff}
-use Rattle.places.specs.declared.Prepared.{Prepared}
 use Rattle.places.specs.declared.Side.{Side}
-use Rattle.places.specs.Side.{side_of, no_side, prepare_of}
+use Rattle.places.specs.Side.{side_of, no_side, Prepared, prepared, prepare_of}
 use Rattle.goals.specs.declared.Row.{Row}
 use Rattle.goals.specs.declared.Run.{Run}
+use Rattle.goals.specs.declared.Which.TheVariants.{Left, Right, Both}
 use Rattle.goals.specs.declared.SideRefusal.{SideRefusal}
 use Rattle.goals.specs.Run.{state, run}
 use Rattle.goals.specs.Refusals.{Given, room_of, left_of, right_of, Against, against, against_of, first, side_rules, refusal_by, refusal_of, start_rules, run_rules, trace_rules, start_refusal, run_refusal, trace_refusal, run_after}
 use Rattle.asking.specs.declared.Asked.{Asked}
-use Rattle.asking.specs.Asked.{named, why_not, asked_of, asked_rules, Judged, side_impossible, Possible, start_refusal_on, run_refusal_on, trace_refusal_on, run_after_on}
-use Rattle.asking.proofs.Refusing.{first-here, first-skip, first-none, first_more, first_past, first-zero, named_self, Sided, named-sided, sided}
+use Rattle.asking.specs.Asked.{named, naming, unless_refused, why_not, asked_of, asked_rules, Judged, side_impossible, Possible, start_refusal_on, run_refusal_on, trace_refusal_on, run_after_on}
+use Rattle.asking.proofs.Refusing.{first-here, first-skip, first-none, first_more, first_past, first-zero, named_self, named_none, Sided, named-sided, sided, unless-ok, unless-err, unless_named, unless_passed, unless-same, left-refused, right-refused, both-passed, both-refused, both-none}
 use Rattle.asking.proofs.Possible.{passes-iff, made-possible}
 
 -- ---- both sides
@@ -42,26 +44,34 @@ sides-pass g h =
     same true e z = eqb-true _ _ e
     same false e z = absurd (omega (arith, z))
 
-prepared-side : (s : ℕ) (ns : List ℕ) (a : Prepared) → a ≡ prepare_of s ns → side_refusal s (decodings ns) ≡ 0 → a.side ≡ side_of s (nodes_of (decodings ns))
-unfolding prepare_of
-prepared-side s ns a e z = ap (λ (t : Prepared). t.side) e ∙ ap (λ (b : Bool). cond b (side_of s (nodes_of (decodings ns))) no_side) (eq-eqb _ _ z)
+-- what `places::prepare` answers of a table
+module _ (s : ℕ) (ns : List ℕ) where
+  prepared-number : (r : Result Side Refusal) → prepared r ≡ prepare_of s ns → number_in r ≡ side_refusal s (decodings ns)
+  unfolding prepared prepare_of
+  prepared-number (Ok sd) e = ap (λ (p : Prepared). p.number) e
+  prepared-number (Err why) e = ap (λ (p : Prepared). p.number) e
 
-prepared-number : (s : ℕ) (ns : List ℕ) (a : Prepared) → a ≡ prepare_of s ns → a.refusal.number ≡ side_refusal s (decodings ns)
-unfolding prepare_of
-prepared-number s ns a e = ap (λ (t : Prepared). t.refusal.number) e
+  prepared-side : (sd : Side) → prepared (Ok sd) ≡ prepare_of s ns → sd ≡ side_of s (nodes_of (decodings ns))
+  unfolding prepared prepare_of
+  prepared-side sd e =
+      let z = ap (λ (p : Prepared). p.number) e in
+      ap (λ (p : Prepared). p.side) e ∙ ap (λ (b : Bool). cond b (side_of s (nodes_of (decodings ns))) no_side) (eq-eqb _ _ (sym z))
 
 -- ---- any two sides: the refusal that is known already, or the first of 24, 24 and 14
-pub why-here : (a : Asked) → (a.why.refusal.number ≡ 0 → ⊥) → a.why ≡ why_not a
-unfolding why_not
-why-here a h = sym (ap named (first-here _ _ _ h) ∙ named_self a.why)
+-- the rows of 24 and 14
+abbrev pub rules_of : Side → Side → List Against
+rules_of l r = against 1 (rule 24 (side_impossible l)) ∷ against 2 (rule 24 (side_impossible r)) ∷ against 3 (rule 14 (not (eqb l.s r.s))) ∷ []
 
-pub why-next : (a : Asked) (w : SideRefusal) (l r : ℕ) → a.why.refusal.number ≡ 0
-    → l ≡ rule 24 (side_impossible a.left) → r ≡ rule 24 (side_impossible a.right)
-    → w ≡ named (first (against 1 l ∷ against 2 r ∷ against 3 (rule 14 (not (eqb a.left.s a.right.s))) ∷ [])) → w ≡ why_not a
-unfolding why_not
-why-next a w l r z e f h =
-    h ∙ (λ i. named (first (against 1 (e i) ∷ against 2 (f i) ∷ against 3 (rule 14 (not (eqb a.left.s a.right.s))) ∷ [])))
-    ∙ ap named (sym (first-skip _ _ _ z))
+module _ (a : Asked) where
+  pub why-here : (a.why.number ≡ 0 → ⊥) → Err a.why ≡ why_not a
+  unfolding why_not
+  why-here h =
+      ap Err (sym (named_self a.why)) ∙ unless_named (against_of a.why) tt h
+      ∙ ap (λ (r : Against). unless_refused r tt) (sym (first-here _ _ (rules_of a.left a.right) h))
+
+  pub why-next : a.why.number ≡ 0 → unless_refused (first (rules_of a.left a.right)) tt ≡ why_not a
+  unfolding why_not
+  why-next z = ap (λ (r : Against). unless_refused r tt) (sym (first-skip _ _ (rules_of a.left a.right) z))
 
 -- each row names a side, so that a refusal which is handed on is the row's
 pub asked-sided : (a : Asked) (rest : List ℕ) → Sided (asked_rules a ++ map (against 3) rest)
@@ -71,27 +81,28 @@ asked-sided a rest = (ap against_of (named_self a.why), ((sided _).0, ((sided _)
     more [] = tt
     more (n ∷ ns) = ((sided n).2, more ns)
 
-pub handed : (a : Asked) (rest : List ℕ) (why : SideRefusal) → why ≡ named (refusal_by (asked_rules a) rest) → (why.refusal.number ≡ 0 → ⊥) → against_of why ≡ refusal_by (asked_rules a) rest
-handed a rest why e h =
-    ap against_of e ∙ named-sided (asked_rules a ++ map (against 3) rest) (asked-sided a rest) (λ z. h (ap (λ (w : SideRefusal). w.refusal.number) e ∙ z))
+pub handed : {A : Type 0} (a : Asked) (rest : List ℕ) (x : A) (w : SideRefusal) → Err w ≡ unless_refused (refusal_by (asked_rules a) rest) x
+    → (against_of w ≡ refusal_by (asked_rules a) rest) × (w.number ≡ 0 → ⊥)
+handed a rest x w h =
+    let p = unless-err _ x w h in (
+      ap against_of p.1 ∙ named-sided (asked_rules a ++ map (against 3) rest) (asked-sided a rest) p.0,
+      λ z. p.0 (sym (ap (λ (r : SideRefusal). r.number) p.1) ∙ z),
+    )
 
-module _ (a : Asked) (why : SideRefusal) (e : why ≡ why_not a) where
-  why-number : why.refusal.number ≡ (first (asked_rules a)).number
-  unfolding why_not
-  why-number = ap (λ (w : SideRefusal). w.refusal.number) e
+-- a refusal of the sides is the call's, whatever the rest
+pub sides-refused : {A : Type 0} (a : Asked) (w : SideRefusal) → Err w ≡ why_not a → (rest : List ℕ) (x : A) → Err w ≡ unless_refused (refusal_by (asked_rules a) rest) x
+unfolding why_not
+sides-refused a w h rest x =
+    let p = unless-err (first (asked_rules a)) tt w h in
+    unless-same _ _ tt x w (sym (first_more (asked_rules a) (map (against 3) rest) p.0)) h
 
-  -- a refusal of the sides is the call's, whatever the rest
-  pub sides-refused : (why.refusal.number ≡ 0 → ⊥) → (rest : List ℕ) → why ≡ named (refusal_by (asked_rules a) rest)
-  unfolding why_not
-  sides-refused h rest = e ∙ ap named (sym (first_more (asked_rules a) (map (against 3) rest) (λ z. h (why-number ∙ z))))
+-- with none of the sides the rest decide
+pub sides-none : (a : Asked) → Ok tt ≡ why_not a → (first (asked_rules a)).number ≡ 0
+unfolding why_not
+sides-none a h = (unless-ok (first (asked_rules a)) tt tt h).0
 
-  -- with none of the sides the rest decide
-  pub sides-passed : why.refusal.number ≡ 0 → (rest : List ℕ) → refusal_by (asked_rules a) rest ≡ first (map (against 3) rest)
-  sides-passed z rest = first_past (asked_rules a) (map (against 3) rest) (sym why-number ∙ z)
-
-  pub why-none : why.refusal.number ≡ 0 → why ≡ named (against 0 0)
-  unfolding why_not
-  why-none z = e ∙ ap named (first-zero (asked_rules a) (sym why-number ∙ z))
+pub sides-passed : (a : Asked) → Ok tt ≡ why_not a → (rest : List ℕ) → refusal_by (asked_rules a) rest ≡ first (map (against 3) rest)
+sides-passed a h rest = first_past (asked_rules a) (map (against 3) rest) (sides-none a h)
 
 -- what the engine needs of two sides that pass
 pub record Able (a : Asked) : Type 0 where
@@ -117,36 +128,63 @@ able a h =
     }
 
 -- what `ask` makes
-module _ (g : Given) (a b : Prepared) (why : SideRefusal) (e : a ≡ prepare_of g.ls g.left) (f : b ≡ prepare_of g.rs g.right)
-    (h : why ≡ named (first (against 1 a.refusal.number ∷ against 2 b.refusal.number ∷ against 3 (rule 14 (not (eqb g.ls g.rs))) ∷ []))) where
-  judged-as : why ≡ named (first (side_rules g))
-  judged-as = h ∙ (λ i. named (first (against 1 (prepared-number g.ls g.left a e i) ∷ against 2 (prepared-number g.rs g.right b f i) ∷ against 3 (rule 14 (not (eqb g.ls g.rs))) ∷ [])))
+module _ (g : Given) where
+  abbrev pub both_of : Result (Side × Side) SideRefusal
+  both_of = unless_refused (first (side_rules g)) (left_of g, right_of g)
 
-  number-as : why.refusal.number ≡ (first (side_rules g)).number
-  number-as = ap (λ (w : SideRefusal). w.refusal.number) judged-as
+  -- the tables in turn, and then the two s
+  module _ (l r : Result Side Refusal) (e : prepared l ≡ prepare_of g.ls g.left) (f : prepared r ≡ prepare_of g.rs g.right) where
+    abbrev fourteen : ℕ
+    fourteen = rule 14 (not (eqb g.ls g.rs))
 
-  pub asks-refused : (sd : Side) → sd ≡ no_side → (why.refusal.number ≡ 0 → ⊥) → record { why = why; left = sd; right = sd } ≡ asked_of g
+    abbrev number-left : number_in l ≡ side_refusal g.ls (decodings g.left)
+    number-left = prepared-number g.ls g.left l e
+
+    abbrev number-right : number_in r ≡ side_refusal g.rs (decodings g.right)
+    number-right = prepared-number g.rs g.right r f
+
+    module _ (y : Side) (h : Ok y ≡ naming Left l) where
+      pub asks-right : (w : SideRefusal) → Err w ≡ naming Right r → Err w ≡ both_of
+      asks-right = right-refused _ _ fourteen (left_of g, right_of g) l r number-left number-right y h
+
+      module _ (z : Side) (q : Ok z ≡ naming Right r) where
+        passed-both : (l ≡ Ok y) × (r ≡ Ok z) × (both_of ≡ unless_refused (first (against 3 fourteen ∷ [])) (left_of g, right_of g))
+        passed-both = both-passed _ _ fourteen (left_of g, right_of g) l r number-left number-right y h z q
+
+        module _ (both : Result (Unit {0}) Refusal) (p : number_in both ≡ fourteen) where
+          pub asks-14 : (w : SideRefusal) → Err w ≡ naming Both both → Err w ≡ both_of
+          asks-14 w k = both-refused fourteen (left_of g, right_of g) both p w k ∙ sym passed-both.2
+
+          pub asks-both : (u : Unit {0}) → Ok u ≡ naming Both both → Ok (y, z) ≡ both_of
+          asks-both u k =
+              (λ i. Ok (prepared-side g.ls g.left y (ap prepared (sym passed-both.0) ∙ e) i, prepared-side g.rs g.right z (ap prepared (sym passed-both.1) ∙ f) i))
+              ∙ both-none fourteen (left_of g, right_of g) both p u k ∙ sym passed-both.2
+
+  pub asks-left : (l : Result Side Refusal) → prepared l ≡ prepare_of g.ls g.left → (w : SideRefusal) → Err w ≡ naming Left l → Err w ≡ both_of
+  asks-left l e = left-refused _ _ (left_of g, right_of g) l (prepared-number g.ls g.left l e)
+
+  pub asks-refused : (why : SideRefusal) (l r : Side) → Err why ≡ both_of → l ≡ no_side → r ≡ no_side → record { why = why; left = l; right = r } ≡ asked_of g
   unfolding asked_of
-  asks-refused sd n z =
-      let o = ne_eqb _ _ (λ (q : (first (side_rules g)).number ≡ 0). z (number-as ∙ q)) in
+  asks-refused why l r h m n =
+      let p = unless-err (first (side_rules g)) (left_of g, right_of g) why h in
+      let o = ne_eqb _ _ p.0 in
       λ i.
       record {
-        why = judged-as i;
-        left = (n ∙ ap (λ (t : Bool). cond t (left_of g) no_side) (sym o)) i;
+        why = p.1 i;
+        left = (m ∙ ap (λ (t : Bool). cond t (left_of g) no_side) (sym o)) i;
         right = (n ∙ ap (λ (t : Bool). cond t (right_of g) no_side) (sym o)) i;
       }
 
-  pub asks-made : why.refusal.number ≡ 0 → record { why = why; left = a.side; right = b.side } ≡ asked_of g
+  pub asks-made : (why : SideRefusal) (l r : Side) → why ≡ named (against 3 0) → Ok (l, r) ≡ both_of → record { why = why; left = l; right = r } ≡ asked_of g
   unfolding asked_of
-  asks-made z =
-      let q = sym number-as ∙ z in
-      let o = eq-eqb _ _ q in
-      let p = sides-pass g q in
+  asks-made why l r e h =
+      let p = unless-ok (first (side_rules g)) (left_of g, right_of g) (l, r) h in
+      let o = eq-eqb _ _ p.0 in
       λ i.
       record {
-        why = judged-as i;
-        left = (prepared-side g.ls g.left a e p.left ∙ ap (λ (t : Bool). cond t (left_of g) no_side) (sym o)) i;
-        right = (prepared-side g.rs g.right b f p.right ∙ ap (λ (t : Bool). cond t (right_of g) no_side) (sym o)) i;
+        why = (e ∙ named_none ∙ ap named (sym (first-zero (side_rules g) p.0))) i;
+        left = (ap (λ (t : Side × Side). t.0) p.1 ∙ ap (λ (t : Bool). cond t (left_of g) no_side) (sym o)) i;
+        right = (ap (λ (t : Side × Side). t.1) p.1 ∙ ap (λ (t : Bool). cond t (right_of g) no_side) (sym o)) i;
       }
 
 signals-are : (s : ℕ) (t : List Node) → (side_of s t).s ≡ s
@@ -182,7 +220,7 @@ module _ (g : Given) where
         (ap (λ (x : Side). x.s) left-asked ∙ signals-are g.ls (nodes_of (decodings g.left)) ∙ passes.same
         ∙ sym (ap (λ (x : Side). x.s) right-asked ∙ signals-are g.rs (nodes_of (decodings g.right)))))
 
-    none-asked : (asked_of g).why.refusal.number ≡ 0
+    none-asked : (asked_of g).why.number ≡ 0
     unfolding asked_of
     none-asked = h
 
@@ -192,17 +230,24 @@ module _ (g : Given) where
         first-skip _ _ _ none-asked ∙ first-skip 1 _ _ left-possible ∙ first-skip 2 _ _ right-possible ∙ first-skip 3 _ _ same-signals
 
   -- ---- they are refused
+  sides-named : ((first (side_rules g)).number ≡ 0 → ⊥) → against_of (named (first (side_rules g))) ≡ first (side_rules g)
+  sides-named h = named-sided (side_rules g) ((sided _).0, ((sided _).1, ((sided _).2, tt))) h
+
   asked-refused : ((first (side_rules g)).number ≡ 0 → ⊥) → (rest : List Against) → first (asked_rules (asked_of g) ++ rest) ≡ first (side_rules g)
   unfolding asked_of
-  asked-refused h rest = first-here _ _ _ h ∙ named-sided (side_rules g) ((sided _).0, ((sided _).1, ((sided _).2, tt))) h
+  asked-refused h rest = first-here _ _ _ h ∙ sides-named h
 
-  judged : why_not (asked_of g) ≡ (asked_of g).why
+  judged : why_not (asked_of g) ≡ unless_refused (against_of (asked_of g).why) tt
   unfolding why_not first
   judged = by (eqb (first (side_rules g)).number 0) refl
     where
-      by : (b : Bool) → eqb (first (side_rules g)).number 0 ≡ b → named (first (asked_rules (asked_of g))) ≡ (asked_of g).why
-      by true z = let h = eqb-true _ _ z in ap named (asked-passed h [] ∙ sym (first-zero (side_rules g) h)) ∙ sym why-is
-      by false z = ap named (asked-refused (eqb-false _ _ z) []) ∙ sym why-is
+      by : (b : Bool) → eqb (first (side_rules g)).number 0 ≡ b → unless_refused (first (asked_rules (asked_of g))) (tt {0}) ≡ unless_refused (against_of (asked_of g).why) (tt {0})
+      by true z =
+          let h = eqb-true _ _ z in
+          sym (unless_passed (first (asked_rules (asked_of g))) tt (ap (λ (r : Against). r.number) (asked-passed h []))) ∙ unless_passed (against_of (asked_of g).why) tt (none-asked h)
+      by false z =
+          let h = eqb-false _ _ z in
+          ap (λ (r : Against). unless_refused r tt) (asked-refused h [] ∙ sym (sides-named h) ∙ ap against_of (sym why-is))
 
   -- the sides that `ask` made are refused as the tables are, and 24 never
   pub asked-same : (rest rest' : List ℕ) → ((first (side_rules g)).number ≡ 0 → rest ≡ rest') → refusal_by (asked_rules (asked_of g)) rest ≡ refusal_of g rest'

@@ -4,13 +4,13 @@ use mathlib.Core.Path.{◌≡◌, subst}
 use mathlib.Core.Bool.{false, not}
 use mathlib.Core.Logic.{⊎_elim, ◌↔◌}
 use mathlib.Core.List.{List}
+use Rattle.std.proofs.Common.{Option}
 use native.Mathlib.Omega.{arith}
 use lib.ListN.{length}
 use borrow.Author.Tests.{ne_eqb, eqb-false, lt-ltb, le-ltb, ltb-true, ltb-false}
 use Rattle.bits.specs.Bit.{bit, Mem, has, within}
 use Rattle.bits.proofs.Laws.{lt-mem, mem-lt, mem-pow}
 use Rattle.effect.specs.declared.Node.{Node}
-use Rattle.effect.specs.declared.Decoded.{Decoded}
 use Rattle.effect.specs.Node.{nodes_of}
 use Rattle.effect.specs.Meaning.{root}
 use Rattle.effect.specs.Refusals.{instants}
@@ -79,7 +79,7 @@ module _ (t : List Node) where
       (λ e. let z : j ≡ 0 = e.1 in omega arith)
       ((or-mem (last_of (numbered t) (root (numbered t))) _ j same (cond-mem (has_empty (numbered t) (root (numbered t))) 1 j same (mem-pow 0 j))).0 m)
 
-pub made-possible : (s : ℕ) (ds : List Decoded) → WellFormed s ds → side_impossible (side_of s (nodes_of ds)) ≡ false
+pub made-possible : (s : ℕ) (ds : List (Option Node)) → WellFormed s ds → side_impossible (side_of s (nodes_of ds)) ≡ false
 unfolding side_of
 made-possible s ds w =
     let t = nodes_of ds in

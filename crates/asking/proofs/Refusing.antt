@@ -1,17 +1,20 @@
 -- The refusals of a comparison in their order, and what a call leaves in each case.
 use Prim.Native.Nat.{ℕ, suc}
 use mathlib.Core.Path.{◌≡◌, refl, sym, ap, ◌∙◌}
-use mathlib.Core.Bool.{Bool, true, false, cond, not}
+use mathlib.Core.Bool.{Bool, true, false, cond}
 use mathlib.Core.List.{List, [], ◌∷◌, ◌++◌}
 use native.Mathlib.Omega.{arith}
 use lib.Dec.{eqb}
 use borrow.Author.Tests.{eq-eqb, ne_eqb, eqb-true, eqb-false}
-use Rattle.effect.specs.Refusals.{rule}
+use Rattle.std.proofs.Common.{Result, Ok, Err}
+use Rattle.effect.specs.declared.Refusal.{Refusal}
+use Rattle.effect.specs.Refusals.{rule, refusal_number, number_in}
+use Rattle.effect.proofs.Numbers.{number-positive}
 use Rattle.goals.specs.declared.Which.{Which}
 use Rattle.goals.specs.declared.Which.TheVariants.{Left, Right, Both}
 use Rattle.goals.specs.declared.SideRefusal.{SideRefusal}
 use Rattle.goals.specs.Refusals.{Against, against, against_of, side_number, first, exit, leaves}
-use Rattle.asking.specs.Asked.{which_of, named}
+use Rattle.asking.specs.Asked.{which_of, named, unless_refused, naming}
 
 -- ---- the first of the rows
 pub first-here : (side n : ℕ) (rs : List Against) → (n ≡ 0 → ⊥) → first (against side n ∷ rs) ≡ against side n
@@ -71,13 +74,6 @@ unfolding first
 first-zero [] h = refl
 first-zero (x ∷ xs) h = let z = first-none x xs h in first-skip x.side x.number xs z.0 ∙ first-zero xs z.1
 
--- both sides pass: their s decide
-pub first-both : (a b ls rs : ℕ) (t : Bool) → a ≡ 0 → b ≡ 0 → eqb ls rs ≡ t
-    → first (against 1 a ∷ against 2 b ∷ against 3 (rule 14 (not (eqb ls rs))) ∷ []) ≡ cond t (against 0 0) (against 3 14)
-unfolding first
-first-both a b ls rs true e f h = rw (eq-eqb a 0 e, eq-eqb b 0 f, h)
-first-both a b ls rs false e f h = rw (eq-eqb a 0 e, eq-eqb b 0 f, h)
-
 -- ---- a refusal by value
 which-self : (x : Which) → which_of (side_number x) ≡ x
 unfolding which_of side_number
@@ -87,7 +83,7 @@ which-self Both = refl
 
 -- one that is handed on stays what it is
 pub named_self : (why : SideRefusal) → named (against_of why) ≡ why
-named_self why = λ i. record { side = which-self why.side i; refusal = record { number = why.refusal.number } }
+named_self why = λ i. record { side = which-self why.side i; number = why.number }
 
 pub named_none : named (against 3 0) ≡ named (against 0 0)
 unfolding which_of
@@ -110,6 +106,96 @@ named-sided (x ∷ xs) s h = by (eqb x.number 0) h (named-sided xs s.1)
 pub sided : (n : ℕ) → (against_of (named (against 1 n)) ≡ against 1 n) × (against_of (named (against 2 n)) ≡ against 2 n) × (against_of (named (against 3 n)) ≡ against 3 n)
 unfolding which_of side_number
 sided n = (refl, refl, refl)
+
+-- ---- a value, or the first refusal
+module _ {A : Type 0} (r : Against) (x : A) where
+  pub unless-ok : (y : A) → Ok y ≡ unless_refused r x → (r.number ≡ 0) × (y ≡ x)
+  unfolding unless_refused
+  unless-ok y h = by (eqb r.number 0) refl h
+    where
+      by : (b : Bool) → eqb r.number 0 ≡ b → Ok y ≡ cond b (Ok x) (Err (named r)) → (r.number ≡ 0) × (y ≡ x)
+      by true e h = (eqb-true _ _ e, cc)
+      by false e h = absurd (cc)
+
+  pub unless-err : (w : SideRefusal) → Err w ≡ unless_refused r x → (r.number ≡ 0 → ⊥) × (w ≡ named r)
+  unfolding unless_refused
+  unless-err w h = by (eqb r.number 0) refl h
+    where
+      by : (b : Bool) → eqb r.number 0 ≡ b → Err w ≡ cond b (Ok x) (Err (named r)) → (r.number ≡ 0 → ⊥) × (w ≡ named r)
+      by true e h = absurd (cc)
+      by false e h = (eqb-false _ _ e, cc)
+
+  pub unless_passed : r.number ≡ 0 → Ok x ≡ unless_refused r x
+  unfolding unless_refused
+  unless_passed z = rw (eq-eqb _ _ z)
+
+  pub unless_named : (r.number ≡ 0 → ⊥) → Err (named r) ≡ unless_refused r x
+  unfolding unless_refused
+  unless_named n = rw (ne_eqb _ _ n)
+
+-- a refusal is one whatever the value is
+pub unless-same : {A B : Type 0} (r r' : Against) (x : A) (y : B) (w : SideRefusal) → r ≡ r' → Err w ≡ unless_refused r x → Err w ≡ unless_refused r' y
+unless-same r r' x y w e h =
+    let p = unless-err r x w h in
+    ap Err p.1 ∙ unless_named r y p.0 ∙ ap (λ (s : Against). unless_refused s y) e
+
+-- the answer of a side, which its row says the number of, before the other rows
+module _ {A B : Type 0} (side n : ℕ) (rs : List Against) (x : A) (r : Result B Refusal) (e : number_in r ≡ n) where
+  naming-ok : (y : B) → Ok y ≡ naming (which_of side) r → (r ≡ Ok y) × (unless_refused (first (against side n ∷ rs)) x ≡ unless_refused (first rs) x)
+  naming-ok y h = by r e h
+    where
+      by : (r : Result B Refusal) → number_in r ≡ n → Ok y ≡ naming (which_of side) r → (r ≡ Ok y) × (unless_refused (first (against side n ∷ rs)) x ≡ unless_refused (first rs) x)
+      by (Ok z) e h = (let q : z ≡ y = cc in ap Ok q, ap (λ (q : Against). unless_refused q x) (first-skip side n rs (sym e)))
+      by (Err why) e h = absurd (cc)
+
+  naming-err : (w : SideRefusal) → Err w ≡ naming (which_of side) r → Err w ≡ unless_refused (first (against side n ∷ rs)) x
+  naming-err w h = by r e h
+    where
+      by : (r : Result B Refusal) → number_in r ≡ n → Err w ≡ naming (which_of side) r → Err w ≡ unless_refused (first (against side n ∷ rs)) x
+      by (Ok z) e h = absurd (cc)
+      by (Err why) e h =
+          let some : n ≡ 0 → ⊥ = λ z. omega (arith, number-positive why, e, z) in
+          let k : w ≡ named (against side (refusal_number why)) = cc in
+          ap Err (k ∙ ap (λ (m : ℕ). named (against side m)) e) ∙ unless_named (against side n) x some ∙ ap (λ (q : Against). unless_refused q x) (sym (first-here side n rs some))
+
+-- the answers of two sides in turn, and then what both are asked
+pub left-refused : {A B : Type 0} (n : ℕ) (rs : List Against) (x : A) (l : Result B Refusal) → number_in l ≡ n → (w : SideRefusal) → Err w ≡ naming Left l
+    → Err w ≡ unless_refused (first (against 1 n ∷ rs)) x
+unfolding which_of
+left-refused n rs x l e w h = naming-err 1 n rs x l e w h
+
+module _ {A B C : Type 0} (n m k : ℕ) (x : A) (l : Result B Refusal) (r : Result C Refusal) (e : number_in l ≡ n) (f : number_in r ≡ m) where
+  abbrev rows : List Against
+  rows = against 1 n ∷ against 2 m ∷ against 3 k ∷ []
+
+  module _ (y : B) (h : Ok y ≡ naming Left l) where
+    left-passed : (l ≡ Ok y) × (unless_refused (first rows) x ≡ unless_refused (first (against 2 m ∷ against 3 k ∷ [])) x)
+    unfolding which_of
+    left-passed = naming-ok 1 n (against 2 m ∷ against 3 k ∷ []) x l e y h
+
+    pub right-refused : (w : SideRefusal) → Err w ≡ naming Right r → Err w ≡ unless_refused (first rows) x
+    unfolding which_of
+    right-refused w q = naming-err 2 m (against 3 k ∷ []) x r f w q ∙ sym left-passed.1
+
+    pub both-passed : (z : C) → Ok z ≡ naming Right r → (l ≡ Ok y) × (r ≡ Ok z) × (unless_refused (first rows) x ≡ unless_refused (first (against 3 k ∷ [])) x)
+    unfolding which_of
+    both-passed z q =
+        let p = naming-ok 2 m (against 3 k ∷ []) x r f z q in
+        (left-passed.0, p.0, left-passed.1 ∙ p.1)
+
+-- what both are asked is the last row
+pub both-refused : {A B : Type 0} (k : ℕ) (x : A) (q : Result B Refusal) → number_in q ≡ k → (w : SideRefusal) → Err w ≡ naming Both q
+    → Err w ≡ unless_refused (first (against 3 k ∷ [])) x
+unfolding which_of
+both-refused k x q e w h = naming-err 3 k [] x q e w h
+
+pub both-none : {A B : Type 0} (k : ℕ) (x : A) (q : Result B Refusal) → number_in q ≡ k → (y : B) → Ok y ≡ naming Both q → Ok x ≡ unless_refused (first (against 3 k ∷ [])) x
+unfolding which_of first
+both-none k x q e y h = unless_passed (first []) x refl ∙ sym (naming-ok 3 k [] x q e y h).1
+
+pub both-answer : (k : ℕ) (q : Result (Unit {0}) Refusal) → number_in q ≡ k → naming Both q ≡ unless_refused (first (against 3 k ∷ [])) (tt {0})
+both-answer k (Ok y) e = both-none k tt (Ok y) e y refl
+both-answer k (Err why) e = both-refused {B = Unit {0}} k tt (Err why) e (record { side = Both; number = refusal_number why }) refl
 
 -- ---- what a call leaves
 pub leaves-refused : {Lent : Type 0} (why : Against) (values : List ℕ) (changed lent : Lent) → (why.number ≡ 0 → ⊥)

@@ -1,7 +1,8 @@
 -- Both sides by value, as the calls take them: what `ask` makes of two tables, which values the calls refuse, and the calls' refusals.
-use Rattle.std.specs.Prelude.{ℕ, ◌+◌, ◌≤◌, ◌<◌, ◌≡◌, Bool, false, cond, not, ◌||◌, ◌↔◌, List, [], ◌∷◌, eqb, ltb}
+use Rattle.std.specs.Prelude.{ℕ, ◌+◌, ◌≤◌, ◌<◌, ◌≡◌, Bool, false, cond, not, ◌||◌, ◌↔◌, Result, Ok, Err, List, [], ◌∷◌, eqb, ltb}
 use Rattle.bits.specs.Bit.{Mem, has, within}
-use Rattle.effect.specs.Refusals.{rule, some_below}
+use Rattle.effect.specs.declared.Refusal.{Refusal}
+use Rattle.effect.specs.Refusals.{refusal_number, rule, some_below}
 use Rattle.places.specs.declared.Side.{Side}
 use Rattle.places.specs.Side.{no_side}
 use Rattle.places.specs.Readings.{followers}
@@ -19,7 +20,16 @@ unfoldable pub which_of : ℕ → Which
 which_of side = cond (eqb side 1) Left (cond (eqb side 2) Right Both)
 
 abbrev pub named : Against → SideRefusal
-named a = record { side = which_of a.side; refusal = record { number = a.number } }
+named a = record { side = which_of a.side; number = a.number }
+
+-- what is answered where these are the refusals: the value, or the refusal as it is handed on
+unfoldable pub unless_refused : {A : Type 0} → Against → A → Result A SideRefusal
+unless_refused r x = cond (eqb r.number 0) (Ok x) (Err (named r))
+
+-- the answer of one side, or of both, as a call hands it on: its refusal names it
+abbrev pub naming : {A : Type 0} → Which → Result A Refusal → Result A SideRefusal
+naming side (Ok x) = Ok x
+naming side (Err why) = Err (record { side = side; number = refusal_number why })
 
 -- what `ask` makes of two tables: both sides; or why they are refused (2, 3, 7 to 12, 14), and then both are the side of nothing
 unfoldable pub asked_of : Given → Asked
@@ -67,12 +77,12 @@ asked_rules a =
     ∷ []
 
 -- the first of them
-unfoldable pub why_not : Asked → SideRefusal
-why_not a = named (first (asked_rules a))
+unfoldable pub why_not : Asked → Result (Unit {0}) SideRefusal
+why_not a = unless_refused (first (asked_rules a)) tt
 
 -- of what `ask` made, this is its own `why`: neither 24 nor 14 applies to the sides that it made
 abbrev pub Judged : Type 0
-Judged = (g : Given) → why_not (asked_of g) ≡ (asked_of g).why
+Judged = (g : Given) → why_not (asked_of g) ≡ unless_refused (against_of (asked_of g).why) tt
 
 -- The refusals of the three calls on any two sides.
 unfoldable pub start_refusal_on : Asked → ℕ → Against

@@ -1,4 +1,5 @@
 -- What each call leaves: refused for a side, refused for both, or done.
+use Rattle.std.specs.Prelude.{Ok, Err}
 use Prim.Native.Nat.{ℕ, suc, ◌≤◌, ◌<◌}
 use mathlib.Core.Path.{◌≡◌, refl, sym, ap, subst, ◌∙◌}
 use mathlib.Core.Bool.{Bool, true, false, not}
@@ -17,15 +18,13 @@ use Rattle.goals.specs.declared.Row.{Row}
 use Rattle.goals.specs.declared.Run.{Run}
 use Rattle.goals.specs.declared.SideRefusal.{SideRefusal}
 use Rattle.asking.specs.declared.Asked.{Asked}
-use Rattle.asking.specs.Asked.{named, asked_rules, why_not, start_refusal_on, run_refusal_on, trace_refusal_on, run_after_on}
-use Rattle.asking.proofs.Refusing.{first-here, first-skip, first-none, first_more, first_past, first-parts, sided, leaves-refused}
-use Rattle.asking.proofs.Asking.{handed, sides-refused, sides-passed, why-none, Able, able}
-use Rattle.columns.specs.declared.Called.TheVariants as called-variants
-use Rattle.columns.specs.declared.Tracing.TheVariants as tracing-variants
+use Rattle.asking.specs.Asked.{named, unless_refused, asked_rules, why_not, start_refusal_on, run_refusal_on, trace_refusal_on, run_after_on}
+use Rattle.asking.proofs.Refusing.{first-here, first-skip, first-none, first_more, first_past, first-parts, sided, leaves-refused, unless-ok, unless_named, unless_passed}
+use Rattle.asking.proofs.Asking.{handed, sides-refused, sides-passed, Able, able}
 use Rattle.goals.specs.Run.{State, started, run, trace_of}
 use Rattle.goals.specs.Refusals.{room_of, record_of, impossible, Against, against, against_of, first, refusal_by, start_rules, exit, leaves, values_of}
 use Rattle.columns.specs.Calls.{Columns, columns, rows_in, lent_in, state_of, called, tracing, Starts, Runs, Traces}
-use Rattle.columns.specs.Core.{Fits, Runnable, Steps, Rooted, climb}
+use Rattle.columns.specs.Core.{Fits, Runnable, Steps, Rooted, climb, MayRun}
 use Rattle.columns.proofs.Possible.{Possible, possible}
 use Rattle.columns.proofs.Climbing.{climb-word}
 
@@ -60,26 +59,29 @@ pub record Traceable (c : Columns) (r : Run) : Type 0 where
   pub bytes : (i : ℕ) → i < r.used → get_or c.letters i 0 < 256
   pub word : trace_of (rows_in c r.used) r.settled ≡ climb c.parents c.letters r.settled r.settled
 
-module _ (a : Asked) (lent : ℕ) (c : Columns) (why : SideRefusal) (e : why ≡ why_not a) where
-  -- ---- start
-  pub start-sides : (why.refusal.number ≡ 0 → ⊥) → Starts a lent c (called-variants.Refused why) c
-  unfolding called start_refusal_on
-  start-sides h = refused-reply _ _ _ _ _ (handed a (start_rules (lent_in lent c)) why (sides-refused a why e h (start_rules (lent_in lent c))) h) h
+-- ---- start
+module _ (a : Asked) (lent : ℕ) (c : Columns) where
+  abbrev rules : List ℕ
+  rules = start_rules (lent_in lent c)
 
-  module _ (z : why.refusal.number ≡ 0) where
-    pub start_none : (w : SideRefusal) → w ≡ named (against 3 15) → lent_in lent c ≡ 0 → Starts a lent c (called-variants.Refused w) c
+  pub start-sides : (w : SideRefusal) → Err w ≡ why_not a → Starts a lent c (Err w) c
+  unfolding called start_refusal_on
+  start-sides w e = let p = handed a rules (tt {0}) w (sides-refused a w e rules tt) in refused-reply _ _ _ _ _ p.0 p.1
+
+  module _ (z : Ok tt ≡ why_not a) where
+    pub start_none : (w : SideRefusal) → w ≡ named (against 3 15) → lent_in lent c ≡ 0 → Starts a lent c (Err w) c
     unfolding called start_refusal_on
     start_none w k h =
         refused-reply _ _ _ _ _
-        (ap against_of k ∙ (sided 15).2 ∙ sym (sides-passed a why e z (start_rules (lent_in lent c)) ∙ applies 14 _ [] (eq-eqb _ _ h)))
-        (λ q. omega (arith, sym (ap (λ (x : SideRefusal). x.refusal.number) k) ∙ q))
+        (ap against_of k ∙ (sided 15).2 ∙ sym (sides-passed a z rules ∙ applies 14 _ [] (eq-eqb _ _ h)))
+        (λ q. omega (arith, sym (ap (λ (x : SideRefusal). x.number) k) ∙ q))
 
     start-passed : (lent_in lent c ≡ 0 → ⊥) → against 0 0 ≡ start_refusal_on a (lent_in lent c)
     unfolding start_refusal_on
-    start-passed h = sym (sides-passed a why e z (start_rules (lent_in lent c)) ∙ not-applies 15 _ [] (ne_eqb _ _ h) ∙ none_left)
+    start-passed h = sym (sides-passed a z rules ∙ not-applies 15 _ [] (ne_eqb _ _ h) ∙ none_left)
 
     pub start-done : (lent_in lent c ≡ 0 → ⊥)
-        → Starts a lent c (called-variants.Accepted (record { settled = 0; used = 1; outcome = 0 })) (columns (set c.places 0 0) (set c.sets 0 1) (set c.parents 0 0) (set c.letters 0 0))
+        → Starts a lent c (Ok (record { settled = 0; used = 1; outcome = 0 })) (columns (set c.places 0 0) (set c.sets 0 1) (set c.parents 0 0) (set c.letters 0 0))
     unfolding called
     start-done h =
         (λ i. exit (record { refusal = against 0 0; values = values_of (record_of started) })
@@ -98,19 +100,21 @@ module _ (a : Asked) (n : ℕ) (c : Columns) (r : Run) where
   abbrev pub impossible_on : Bool
   impossible_on = impossible a.left.s a.left.count a.right.count (room_of n) rows r
 
-  module _ (why : SideRefusal) (e : why ≡ why_not a) where
-    pub refuses-sides : (why.refusal.number ≡ 0 → ⊥) → why ≡ named (run_refusal_on a n rows r)
+  pub refuses-sides : (w : SideRefusal) → Err w ≡ why_not a → MayRun a n rows r (Err w)
+  unfolding run_refusal_on
+  refuses-sides w e = sides-refused a w e (rule 16 impossible_on ∷ []) tt
+
+  module _ (z : Ok tt ≡ why_not a) (b : Bool) (asked : b ≡ impossible_on) where
+    pub refuses-16 : (w : SideRefusal) → w ≡ named (against 3 16) → b ≡ true → MayRun a n rows r (Err w)
     unfolding run_refusal_on
-    refuses-sides h = sides-refused a why e h (rule 16 impossible_on ∷ [])
+    refuses-16 w k h =
+        ap Err k ∙ unless_named (against 3 16) tt (λ q. omega (arith, q))
+        ∙ ap (λ (x : Against). unless_refused x tt) (sym (sides-passed a z (rule 16 impossible_on ∷ []) ∙ applies 15 _ [] (sym asked ∙ h)))
 
-    module _ (z : why.refusal.number ≡ 0) (b : Bool) (asked : b ≡ impossible_on) where
-      pub refuses-16 : (w : SideRefusal) → w ≡ named (against 3 16) → b ≡ true → w ≡ named (run_refusal_on a n rows r)
-      unfolding run_refusal_on
-      refuses-16 w k h = k ∙ ap named (sym (sides-passed a why e z (rule 16 impossible_on ∷ []) ∙ applies 15 _ [] (sym asked ∙ h)))
-
-      pub refuses-none : b ≡ false → why ≡ named (run_refusal_on a n rows r)
-      unfolding run_refusal_on
-      refuses-none h = why-none a why e z ∙ ap named (sym (sides-passed a why e z (rule 16 impossible_on ∷ []) ∙ not-applies 16 _ [] (sym asked ∙ h) ∙ none_left))
+    pub refuses-none : b ≡ false → MayRun a n rows r (Ok tt)
+    unfolding run_refusal_on
+    refuses-none h =
+        unless_passed _ tt (ap (λ (x : Against). x.number) (sides-passed a z (rule 16 impossible_on ∷ []) ∙ not-applies 16 _ [] (sym asked ∙ h) ∙ none_left))
 
 -- the columns have the room of the rows that are lent in all of them
 pub fits-lent : (lent : ℕ) (c : Columns) (n room : ℕ) → room ≡ room_of (lent_in lent c) → n ≤ room → Fits c n room
@@ -124,27 +128,26 @@ fits-lent lent c n room e h = record {
   letters = omega (arith, e);
 }
 
-module _ (a : Asked) (lent : ℕ) (c : Columns) (r : Run) (why : SideRefusal) (p : why ≡ named (run_refusal_on a (lent_in lent c) (rows_in c r.used) r)) where
+module _ (a : Asked) (lent : ℕ) (c : Columns) (r : Run) where
   abbrev used_rows : List Row
   used_rows = rows_in c r.used
 
   abbrev sixteen : ℕ
   sixteen = rule 16 (impossible_on a (lent_in lent c) c r)
 
-  is_number : why.refusal.number ≡ (first (asked_rules a ++ (against 3 sixteen ∷ []))).number
-  unfolding run_refusal_on
-  is_number = ap (λ (w : SideRefusal). w.refusal.number) p
-
   -- a refusal is the call's, whatever it asks besides
-  call-refused : (why.refusal.number ≡ 0 → ⊥) → (rest : List ℕ) → against_of why ≡ refusal_by (asked_rules a) (sixteen ∷ rest)
+  call-refused : (w : SideRefusal) → MayRun a (lent_in lent c) used_rows r (Err w) → (rest : List ℕ) → (against_of w ≡ refusal_by (asked_rules a) (sixteen ∷ rest)) × (w.number ≡ 0 → ⊥)
   unfolding run_refusal_on
-  call-refused h rest =
-      handed a (sixteen ∷ []) why p h
-      ∙ sym (first_more (asked_rules a ++ (against 3 sixteen ∷ [])) (map (against 3) rest) (λ z. h (is_number ∙ z)))
+  call-refused w h rest =
+      let q = handed a (sixteen ∷ []) tt w h in (
+        q.0 ∙ sym (first_more (asked_rules a ++ (against 3 sixteen ∷ [])) (map (against 3) rest) (λ z. q.1 (ap (λ (x : Against). x.number) q.0 ∙ z))),
+        q.1,
+      )
 
-  module _ (z : why.refusal.number ≡ 0) where
+  module _ (z : MayRun a (lent_in lent c) used_rows r (Ok tt)) where
     none : ((first (asked_rules a)).number ≡ 0) × ((first (against 3 sixteen ∷ [])).number ≡ 0)
-    none = first-parts (asked_rules a) (against 3 sixteen ∷ []) (sym is_number ∙ z)
+    unfolding run_refusal_on
+    none = first-parts (asked_rules a) (against 3 sixteen ∷ []) (unless-ok _ tt tt z).0
 
     fine : Able a
     fine = able a none.0
@@ -187,12 +190,12 @@ module _ (a : Asked) (lent : ℕ) (c : Columns) (r : Run) (why : SideRefusal) (p
 
   -- ---- run
   module _ (budget : ℕ) where
-    pub run-refused : (why.refusal.number ≡ 0 → ⊥) → Runs a lent c r budget (called-variants.Refused why) c
+    pub run-refused : (w : SideRefusal) → MayRun a (lent_in lent c) used_rows r (Err w) → Runs a lent c r budget (Err w) c
     unfolding called run_refusal_on
-    run-refused h = refused-reply _ _ _ _ _ (call-refused h []) h
+    run-refused w h = let p = call-refused w h [] in refused-reply _ _ _ _ _ p.0 p.1
 
-    pub run-done : why.refusal.number ≡ 0 → (room : ℕ) → room ≡ room_of (lent_in lent c) → (c' : Columns) (w : Run) → Steps c c' (run a.left a.right room budget (state_of c r)) w
-        → Runs a lent c r budget (called-variants.Accepted w) c'
+    pub run-done : MayRun a (lent_in lent c) used_rows r (Ok tt) → (room : ℕ) → room ≡ room_of (lent_in lent c) → (c' : Columns) (w : Run) → Steps c c' (run a.left a.right room budget (state_of c r)) w
+        → Runs a lent c r budget (Ok w) c'
     unfolding called run_refusal_on run_after_on
     run-done z room e c' w h =
         let st = subst (λ (s : State). Steps c c' s w) (λ i. run a.left a.right (e i) budget (state_of c r)) h in
@@ -206,26 +209,26 @@ module _ (a : Asked) (lent : ℕ) (c : Columns) (r : Run) (why : SideRefusal) (p
     abbrev middle : List ℕ
     middle = rule 17 (not (eqb r.outcome 2)) ∷ late
 
-    pub trace-refused : (why.refusal.number ≡ 0 → ⊥) → Traces a lent c r out (tracing-variants.Refused why) out
+    pub trace-refused : (w : SideRefusal) → MayRun a (lent_in lent c) used_rows r (Err w) → Traces a lent c r out (Err w) out
     unfolding tracing trace_refusal_on
-    trace-refused h = refused-reply _ _ _ _ _ (call-refused h middle) h
+    trace-refused w h = let p = call-refused w h middle in refused-reply _ _ _ _ _ p.0 p.1
 
-    module _ (z : why.refusal.number ≡ 0) where
+    module _ (z : MayRun a (lent_in lent c) used_rows r (Ok tt)) where
       module _ (w : SideRefusal) where
-        later : (n : ℕ) → w ≡ named (against 3 (suc n)) → first (map (against 3) middle) ≡ against 3 (suc n) → Traces a lent c r out (tracing-variants.Refused w) out
+        later : (n : ℕ) → w ≡ named (against 3 (suc n)) → first (map (against 3) middle) ≡ against 3 (suc n) → Traces a lent c r out (Err w) out
         unfolding tracing trace_refusal_on
-        later n e q = refused-reply _ _ _ _ _ (ap against_of e ∙ (sided (suc n)).2 ∙ sym (call-passed z middle ∙ q)) (λ k. omega (arith, sym (ap (λ (x : SideRefusal). x.refusal.number) e) ∙ k))
+        later n e q = refused-reply _ _ _ _ _ (ap against_of e ∙ (sided (suc n)).2 ∙ sym (call-passed z middle ∙ q)) (λ k. omega (arith, sym (ap (λ (x : SideRefusal). x.number) e) ∙ k))
 
-        pub trace-early : w ≡ named (against 3 17) → (r.outcome ≡ 2 → ⊥) → Traces a lent c r out (tracing-variants.Refused w) out
+        pub trace-early : w ≡ named (against 3 17) → (r.outcome ≡ 2 → ⊥) → Traces a lent c r out (Err w) out
         trace-early e k = later 16 e (applies 16 _ late (ap not (ne_eqb _ _ k)))
 
-        pub trace-short : w ≡ named (against 3 18) → r.outcome ≡ 2 → length out < length (trace_of used_rows r.settled) → Traces a lent c r out (tracing-variants.Refused w) out
+        pub trace-short : w ≡ named (against 3 18) → r.outcome ≡ 2 → length out < length (trace_of used_rows r.settled) → Traces a lent c r out (Err w) out
         trace-short e k l = later 17 e (not-applies 17 _ late (ap not (eq-eqb _ _ k)) ∙ applies 17 _ [] (lt-ltb _ _ l))
 
       pub trace-done : r.outcome ≡ 2 → (n : ℕ) (out' : List ℕ)
           → n ≡ length (climb c.parents c.letters r.settled r.settled) → n ≤ length out
           → out' ≡ front (climb c.parents c.letters r.settled r.settled) out
-          → Traces a lent c r out (tracing-variants.Accepted n) out'
+          → Traces a lent c r out (Ok n) out'
       unfolding tracing trace_refusal_on
       trace-done k n out' e l o' =
           let word = (traceable z k).word in

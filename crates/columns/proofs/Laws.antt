@@ -13,10 +13,11 @@ use borrow.Author.Tests.{eq-eqb, ne_eqb, eqb-false}
 use Rattle.effect.specs.Refusals.{some_below, front}
 use Rattle.effect.proofs.Front.{length_front, front-next, front-front, front-taken}
 use Rattle.goals.specs.declared.Row.{Row}
-use Rattle.columns.specs.declared.Entering.{Entering}
+use Rattle.std.specs.Prelude.{Result, Ok, Err}
+use Rattle.columns.specs.declared.NoRoom.{NoRoom}
 use Rattle.goals.specs.Goals.{row, known, Entered, enter, enter_all}
 use Rattle.columns.specs.Calls.{Columns, columns, row_at, rows_in, put}
-use Rattle.columns.specs.Core.{Fits, entering, Enters}
+use Rattle.columns.specs.Core.{Fits, entering, used_of, full_of, Enters}
 
 -- ---- rows in columns
 pub length-rows_in : (c : Columns) (n : ℕ) → length (rows_in c n) ≡ n
@@ -24,7 +25,7 @@ unfolding rows_in
 length-rows_in c zero = refl
 length-rows_in c (suc n) = simp length-append (ap (λ (k : ℕ). k + 1) (length-rows_in c n) ∙ omega arith)
 
-map_snoc : (f : Row → ℕ) (ws : List Row) (w : Row) → map f (ws ++ (w ∷ [])) ≡ map f ws ++ (f w ∷ [])
+pub map_snoc : (f : Row → ℕ) (ws : List Row) (w : Row) → map f (ws ++ (w ∷ [])) ≡ map f ws ++ (f w ∷ [])
 map_snoc f [] w = refl
 map_snoc f (v ∷ ws) w = ap (λ (l : List ℕ). f v ∷ l) (map_snoc f ws w)
 
@@ -36,7 +37,7 @@ column-taken f col c e (suc n) h =
     map_snoc f (rows_in c n) (row_at c n) ∙ ap₂ (λ (l : List ℕ) (x : ℕ). l ++ (x ∷ [])) (column-taken f col c e n (omega arith)) (e n) ∙ sym (take-suc col n 0 h)
 
 -- the four columns at once
-columns-eq : {p p' s s' q q' l l' : List ℕ} → p ≡ p' → s ≡ s' → q ≡ q' → l ≡ l' → columns p s q l ≡ columns p' s' q' l'
+pub columns-eq : {p p' s s' q q' l l' : List ℕ} → p ≡ p' → s ≡ s' → q ≡ q' → l ≡ l' → columns p s q l ≡ columns p' s' q' l'
 columns-eq a b c d = λ i. columns (a i) (b i) (c i) (d i)
 
 module _ (c : Columns) (n room : ℕ) (f : Fits c n room) where
@@ -123,7 +124,7 @@ as-long-then c c' c'' h p s q l =
     record { places = p ∙ h.places; sets = s ∙ h.sets; parents = q ∙ h.parents; letters = l ∙ h.letters }
 
 -- ---- entering
-known-snoc : (c : Row) (ws : List Row) (w : Row) → known c (ws ++ (w ∷ [])) ≡ (known c ws || (eqb w.place c.place && eqb w.set c.set))
+pub known-snoc : (c : Row) (ws : List Row) (w : Row) → known c (ws ++ (w ∷ [])) ≡ (known c ws || (eqb w.place c.place && eqb w.set c.set))
 unfolding known
 known-snoc c [] w = or-false (eqb w.place c.place && eqb w.set c.set)
 known-snoc c (v ∷ ws) w =
@@ -196,21 +197,21 @@ fits-put c n room f rows h =
     wide g d l = rw (length_front (map g rows) d (rw (length-map rows g) (omega arith))) l
 
 -- ---- one part after another
-module _ (c c' c'' : Columns) (room used : ℕ) (xs ys : List Row) (r r' : Entering) (f : Fits c used room) where
+module _ (c c' c'' : Columns) (room used : ℕ) (xs ys : List Row) (r r' : Result ℕ NoRoom) (f : Fits c used room) where
   abbrev first : Entered
   first = enter_all room xs (entering (rows_in c used))
 
   -- the rows entered so far are the rows that stand in the columns
-  rows-first : Enters c c' first r → rows_in c' r.used ≡ first.rows
+  rows-first : Enters c c' first r → rows_in c' (used_of r) ≡ first.rows
   rows-first e =
       ap₂ rows_in e.columns e.used ∙ rows-put first.rows c (length first.rows) (omega arith) ∙ take-length first.rows
 
-  fits-first : Enters c c' first r → Fits c' r.used room
+  fits-first : Enters c c' first r → Fits c' (used_of r) room
   fits-first e =
       let g = all-grows room xs (entering (rows_in c used)) in
       rw (e.columns, e.used) (fits-put c used room f first.rows (g.within (rw (length-rows_in c used) f.used)))
 
-  enters-then : Enters c c' first r → r.full ≡ false → Enters c' c'' (enter_all room ys (entering (rows_in c' r.used))) r'
+  enters-then : Enters c c' first r → full_of r ≡ false → Enters c' c'' (enter_all room ys (entering (rows_in c' (used_of r)))) r'
       → Enters c c'' (enter_all room (xs ++ ys) (entering (rows_in c used))) r'
   enters-then e h g =
       record {
@@ -224,19 +225,19 @@ module _ (c c' c'' : Columns) (room used : ℕ) (xs ys : List Row) (r r' : Enter
       whole : Entered
       whole = enter_all room (xs ++ ys) (entering (rows_in c used))
 
-      start : entering (rows_in c' r.used) ≡ first
+      start : entering (rows_in c' (used_of r)) ≡ first
       start = λ i. record { rows = rows-first e i; full = (sym h ∙ e.full) i }
 
-      same : enter_all room ys (entering (rows_in c' r.used)) ≡ whole
+      same : enter_all room ys (entering (rows_in c' (used_of r))) ≡ whole
       same = ap (enter_all room ys) start ∙ sym (enter-append room xs ys (entering (rows_in c used)))
 
-  enters-stop : Enters c c' first r → r.full ≡ true → Enters c c' (enter_all room (xs ++ ys) (entering (rows_in c used))) r
+  enters-stop : Enters c c' first r → full_of r ≡ true → Enters c c' (enter_all room (xs ++ ys) (entering (rows_in c used))) r
   enters-stop e h =
       rw (enter-append room xs ys (entering (rows_in c used)), enter-full room ys first (sym e.full ∙ h)) e
 
 -- ---- one goal
-abbrev pub entered : ℕ → Bool → Entering
-entered used full = record { used = used; full = full }
+abbrev pub entered : ℕ → Bool → Result ℕ NoRoom
+entered used full = cond full (Err (record { used = used })) (Ok used)
 
 module _ (c : Columns) (n room : ℕ) (f : Fits c n room) (goal : Row) where
   enter-is : (b d : Bool) → known goal (rows_in c n) ≡ b → eqb n room ≡ d
@@ -249,7 +250,8 @@ module _ (c : Columns) (n room : ℕ) (f : Fits c n room) (goal : Row) where
 
   -- the columns stay, and the rows with them
   kept : (full : Bool) → Enters c c (record { rows = rows_in c n; full = full }) (entered n full)
-  kept full = record { columns = put_same c n room f; used = sym (length-rows_in c n); full = refl }
+  kept true = record { columns = put_same c n room f; used = sym (length-rows_in c n); full = refl }
+  kept false = record { columns = put_same c n room f; used = sym (length-rows_in c n); full = refl }
 
   pub enters_none : Enters c c (entering (rows_in c n)) (entered n false)
   enters_none = kept false
@@ -290,7 +292,7 @@ module _ (lent : Columns) (used room : ℕ) (all : List Row) (f : Fits lent used
       (sym (append-nil s.done) ∙ ap (λ (t : List Row). s.done ++ t) (sym e) ∙ s.whole) s.enters
 
   module _ (todo : List Row) (s : Standing lent used room all c u todo) (goal : Row) (next : List Row) (e : todo ≡ goal ∷ next)
-      (c' : Columns) (r : Entering) (g : Enters c c' (enter room goal (entering (rows_in c u))) r) where
+      (c' : Columns) (r : Result ℕ NoRoom) (g : Enters c c' (enter room goal (entering (rows_in c u))) r) where
     whole-next : (s.done ++ (goal ∷ [])) ++ next ≡ all
     whole-next = append_assoc s.done (goal ∷ []) next ∙ ap (λ (t : List Row). s.done ++ t) (sym e) ∙ s.whole
 
@@ -298,10 +300,10 @@ module _ (lent : Columns) (used room : ℕ) (all : List Row) (f : Fits lent used
     unfolding enter_all
     more = enters-then lent c c' room used s.done (goal ∷ []) (entered u false) r f s.enters refl g
 
-    pub stand-next : r.full ≡ false → Standing lent used room all c' r.used next
+    pub stand-next : full_of r ≡ false → Standing lent used room all c' (used_of r) next
     stand-next h = record { done = s.done ++ (goal ∷ []); whole = whole-next; enters = record { columns = more.columns; used = more.used; full = sym h ∙ more.full } }
 
-    pub stand-stop : r.full ≡ true → Enters lent c' (enter_all room all (entering (rows_in lent used))) r
+    pub stand-stop : full_of r ≡ true → Enters lent c' (enter_all room all (entering (rows_in lent used))) r
     stand-stop h =
         subst (λ (l : List Row). Enters lent c' (enter_all room l (entering (rows_in lent used))) r) whole-next
         (enters-stop lent c' c' room used (s.done ++ (goal ∷ [])) next r r f more h)

@@ -1,4 +1,5 @@
 pub mod Laws
+pub mod Rows
 pub mod Stepping
 pub mod Budget
 pub mod Possible

@@ -20,13 +20,14 @@ use Rattle.stepping.specs.declared.Source.{Source}
 use Rattle.stepping.specs.Next.{letters_in}
 use Rattle.stepping.specs.Rest.{goals_for, all_goals}
 use Rattle.stepping.proofs.Laws.{letters-each}
-use Rattle.columns.specs.declared.Entering.{Entering}
+use Rattle.std.specs.Prelude.{Result}
+use Rattle.columns.specs.declared.NoRoom.{NoRoom}
 use Rattle.columns.specs.declared.Letters.{Letters}
 use Rattle.goals.specs.Goals.{row, row_zero, bad_goal, each_member, goals_of, each_letter, candidates, Entered, enter_all}
 use Rattle.goals.specs.Run.{State, state, settle, step}
 use Rattle.columns.specs.Calls.{Columns, row_at, rows_in, state_of}
 use Rattle.goals.specs.Refusals.{record_of}
-use Rattle.columns.specs.Core.{Fits, entering, Enters, source_of, Ready, Steps}
+use Rattle.columns.specs.Core.{Fits, entering, used_of, full_of, Enters, source_of, Ready, Steps}
 use Rattle.columns.proofs.Laws.{length-rows_in, put_same, all-grows}
 
 -- row i of the first n
@@ -94,10 +95,10 @@ module _ (c : Columns) (room : ℕ) (left right : Side) (ls : Letters) (r : Run)
       (ap (bit_and src.follow) (rd.on_left x l))
       (ap (bit_and src.spread) (rd.on_right x l)))
 
-  pub step-next : (c' : Columns) (b : Bool) (from : Source) (e : Entering) (v : Run)
+  pub step-next : (c' : Columns) (b : Bool) (from : Source) (e : Result ℕ NoRoom) (v : Run)
       → b ≡ bad_goal left.accepts right.accepts w.place w.set → b ≡ false → from ≡ src
       → Enters c c' (enter_all room (all_goals from) (entering (rows_in c r.used))) e
-      → (v.used ≡ e.used) × (v.settled ≡ cond e.full r.settled (r.settled + 1)) × (v.outcome ≡ cond e.full 3 (cond (eqb (r.settled + 1) e.used) 1 0))
+      → (v.used ≡ used_of e) × (v.settled ≡ cond (full_of e) r.settled (r.settled + 1)) × (v.outcome ≡ cond (full_of e) 3 (cond (eqb (r.settled + 1) (used_of e)) 1 0))
       → Steps c c' (step left right room (state_of c r)) v
   unfolding settle
   step-next c' b from e v p h q g k =
@@ -111,12 +112,12 @@ module _ (c : Columns) (room : ℕ) (left right : Side) (ls : Letters) (r : Run)
       by true q = record {
         columns = g.columns;
         now = run-eq v (state all.rows r.settled 3) (k.1 ∙ ap (λ (t : Bool). cond t r.settled (r.settled + 1)) (g.full ∙ q)) (k.0 ∙ g.used)
-            (k.2 ∙ ap (λ (t : Bool). cond t 3 (cond (eqb (r.settled + 1) e.used) 1 0)) (g.full ∙ q));
+            (k.2 ∙ ap (λ (t : Bool). cond t 3 (cond (eqb (r.settled + 1) (used_of e)) 1 0)) (g.full ∙ q));
       }
       by false q = record {
         columns = g.columns;
         now = run-eq v (state all.rows (suc r.settled) (cond (eqb (suc r.settled) (length all.rows)) 1 0)) (k.1 ∙ ap (λ (t : Bool). cond t r.settled (r.settled + 1)) (g.full ∙ q) ∙ add-one r.settled) (k.0 ∙ g.used)
-            (k.2 ∙ ap (λ (t : Bool). cond t 3 (cond (eqb (r.settled + 1) e.used) 1 0)) (g.full ∙ q)
+            (k.2 ∙ ap (λ (t : Bool). cond t 3 (cond (eqb (r.settled + 1) (used_of e)) 1 0)) (g.full ∙ q)
             ∙ ap₂ (λ (m n : ℕ). cond (eqb m n) 1 0) (add-one r.settled) g.used);
       }
 
@@ -124,5 +125,5 @@ module _ (c : Columns) (room : ℕ) (left right : Side) (ls : Letters) (r : Run)
       settled_is = by all.full refl
 
 -- no more rows are used than there is room
-pub enters-most : (c c' : Columns) (n room : ℕ) (xs : List Row) (e : Entering) → Fits c n room → Enters c c' (enter_all room xs (entering (rows_in c n))) e → e.used ≤ room
+pub enters-most : (c c' : Columns) (n room : ℕ) (xs : List Row) (e : Result ℕ NoRoom) → Fits c n room → Enters c c' (enter_all room xs (entering (rows_in c n))) e → used_of e ≤ room
 enters-most c c' n room xs e f g = rw g.used ((all-grows room xs (entering (rows_in c n))).within (rw (length-rows_in c n) f.used))

@@ -1,17 +1,14 @@
 -- The calls on parallel columns: what each is lent, answers and leaves.
-use Rattle.std.specs.Prelude.{ℕ, zero, suc, min, ◌≡◌, List, [], ◌∷◌, ◌++◌, map, length, get_or}
+use Rattle.std.specs.Prelude.{ℕ, zero, suc, min, ◌≡◌, Result, Ok, Err, List, [], ◌∷◌, ◌++◌, map, length, get_or}
 use Rattle.effect.specs.Refusals.{front}
 use Rattle.goals.specs.declared.Row.{Row}
 use Rattle.goals.specs.declared.Run.{Run}
+use Rattle.goals.specs.declared.SideRefusal.{SideRefusal}
 use Rattle.goals.specs.Goals.{row}
 use Rattle.goals.specs.Run.{State, state, started, trace_of}
 use Rattle.asking.specs.declared.Asked.{Asked}
 use Rattle.asking.specs.Asked.{start_refusal_on, run_refusal_on, trace_refusal_on, run_after_on}
 use Rattle.goals.specs.Refusals.{record_of, Against, against, against_of, Reply, leaves, exit, values_of}
-use Rattle.columns.specs.declared.Called.{Called}
-use Rattle.columns.specs.declared.Called.TheVariants as called-variants
-use Rattle.columns.specs.declared.Tracing.{Tracing}
-use Rattle.columns.specs.declared.Tracing.TheVariants as tracing-variants
 
 -- The rows as the caller lends them to these calls: a column for each of place, set, parent and letter.
 pub record Columns : Type 0 where
@@ -49,38 +46,38 @@ abbrev pub state_of : Columns → Run → State
 state_of c r = state (rows_in c r.used) r.settled r.outcome
 
 -- the number and values of each case of what start and run answer: settled, used and outcome, or a refusal
-unfoldable pub called : Called → Reply
-called (called-variants.Accepted r) = record { refusal = against 0 0; values = values_of r }
-called (called-variants.Refused why) = record { refusal = against_of why; values = [] }
+unfoldable pub called : Result Run SideRefusal → Reply
+called (Ok r) = record { refusal = against 0 0; values = values_of r }
+called (Err why) = record { refusal = against_of why; values = [] }
 
 -- and of what trace answers: the number of letters, or a refusal
-unfoldable pub tracing : Tracing → Reply
-tracing (tracing-variants.Accepted n) = record { refusal = against 0 0; values = n ∷ [] }
-tracing (tracing-variants.Refused why) = record { refusal = against_of why; values = [] }
+unfoldable pub tracing : Result ℕ SideRefusal → Reply
+tracing (Ok n) = record { refusal = against 0 0; values = n ∷ [] }
+tracing (Err why) = record { refusal = against_of why; values = [] }
 
 -- what start and run leave, given their refusal and the state that else comes out: its record is answered, and its rows stand at the front
-abbrev pub CallsBy : Against → State → Columns → Called → Columns → Type 0
+abbrev pub CallsBy : Against → State → Columns → Result Run SideRefusal → Columns → Type 0
 CallsBy why st c answer c' = exit (called answer) c' ≡ leaves why (values_of (record_of st)) (put st.rows c) c
 
 -- the promise of `start_on`
-abbrev pub Starts : Asked → ℕ → Columns → Called → Columns → Type 0
+abbrev pub Starts : Asked → ℕ → Columns → Result Run SideRefusal → Columns → Type 0
 Starts a lent c answer c' = CallsBy (start_refusal_on a (lent_in lent c)) started c answer c'
 
 -- the promise of `run_on`
-abbrev pub Runs : Asked → ℕ → Columns → Run → ℕ → Called → Columns → Type 0
+abbrev pub Runs : Asked → ℕ → Columns → Run → ℕ → Result Run SideRefusal → Columns → Type 0
 Runs a lent c r budget answer c' =
     let rows = rows_in c r.used in
     CallsBy (run_refusal_on a (lent_in lent c) rows r) (run_after_on a (lent_in lent c) rows r budget) c answer c'
 
 -- what trace leaves, given its refusal: "the letters from row 0 to the refuted row, one byte each, at the buffer's front, and answers how
 -- many; the rest stays"
-abbrev pub TracesBy : Against → List Row → Run → List ℕ → Tracing → List ℕ → Type 0
+abbrev pub TracesBy : Against → List Row → Run → List ℕ → Result ℕ SideRefusal → List ℕ → Type 0
 TracesBy why rows r out answer out' =
     let word = trace_of rows r.settled in
     exit (tracing answer) out' ≡ leaves why (length word ∷ []) (front word out) out
 
 -- the promise of `trace_on`
-abbrev pub Traces : Asked → ℕ → Columns → Run → List ℕ → Tracing → List ℕ → Type 0
+abbrev pub Traces : Asked → ℕ → Columns → Run → List ℕ → Result ℕ SideRefusal → List ℕ → Type 0
 Traces a lent c r out answer out' =
     let rows = rows_in c r.used in
     TracesBy (trace_refusal_on a (lent_in lent c) rows r (length out)) rows r out answer out'

@@ -1,9 +1,10 @@
 -- What the functions under the calls promise each other.
-use Rattle.std.specs.Prelude.{ℕ, zero, suc, ◌≤◌, ◌<◌, ◌^◌, ◌≡◌, true, false, List, [], ◌∷◌, ◌++◌, eqb, length, get_or}
+use Rattle.std.specs.Prelude.{ℕ, zero, suc, ◌≤◌, ◌<◌, ◌^◌, ◌≡◌, Bool, true, false, Result, Ok, Err, List, [], ◌∷◌, ◌++◌, eqb, length, get_or}
 use Rattle.goals.specs.declared.Row.{Row}
 use Rattle.places.specs.Matching.{naming_of, matching_by}
-use Rattle.columns.specs.declared.Entering.{Entering}
+use Rattle.columns.specs.declared.NoRoom.{NoRoom}
 use Rattle.columns.specs.declared.Letters.{Letters}
+use Rattle.columns.specs.declared.Sides.{Sides}
 use Rattle.goals.specs.Goals.{Entered}
 use Rattle.places.specs.declared.Side.{Side}
 use Rattle.places.specs.Readings.{matching, followers, spread_to}
@@ -11,6 +12,9 @@ use Rattle.stepping.specs.declared.Source.{Source}
 use Rattle.goals.specs.declared.Run.{Run}
 use Rattle.goals.specs.Run.{State}
 use Rattle.goals.specs.Refusals.{record_of}
+use Rattle.goals.specs.declared.SideRefusal.{SideRefusal}
+use Rattle.asking.specs.declared.Asked.{Asked}
+use Rattle.asking.specs.Asked.{unless_refused, run_refusal_on}
 use Rattle.columns.specs.Calls.{Columns, put}
 
 -- the columns have room for so many rows, of which so many are used
@@ -26,15 +30,27 @@ pub record Fits (c : Columns) (n room : ℕ) : Type 0 where
 abbrev pub entering : List Row → Entered
 entering rows = record { rows = rows; full = false }
 
+-- how many rows are used once goals were entered, and whether one found no room
+abbrev pub used_of : Result ℕ NoRoom → ℕ
+used_of (Ok used) = used
+used_of (Err e) = e.used
+
+abbrev pub full_of : Result ℕ NoRoom → Bool
+full_of (Ok used) = false
+full_of (Err e) = true
+
 -- columns and answer are what the definition's entered rows say
-pub record Enters (before after : Columns) (e : Entered) (r : Entering) : Type 0 where
+pub record Enters (before after : Columns) (e : Entered) (r : Result ℕ NoRoom) : Type 0 where
   pub columns : after ≡ put e.rows before
-  pub used : r.used ≡ length e.rows
-  pub full : r.full ≡ e.full
+  pub used : used_of r ≡ length e.rows
+  pub full : full_of r ≡ e.full
 
 -- the letters of a call on two sides
 abbrev pub letters_of : Side → Side → Letters
 letters_of left right = record { s = left.s; left = naming_of left; right = naming_of right }
+
+abbrev pub sides_of : Side → Side → Sides
+sides_of left right = record { left = left; right = right; letters = letters_of left right }
 
 -- what the goals of row i are made of, whose place and set these are
 abbrev pub source_of : Side → Side → Letters → ℕ → ℕ → ℕ → Source
@@ -85,3 +101,7 @@ unfoldable pub climb : List ℕ → List ℕ → ℕ → ℕ → List ℕ
 climb parents letters zero i = []
 climb parents letters (suc f) i =
     elim (eqb i 0) [ true ↦ [] | false ↦ climb parents letters f (get_or parents i 0) ++ (get_or letters i 0 ∷ []) ]
+
+-- what run and trace ask first, of n rows lent, the used rows and the record
+abbrev pub MayRun : Asked → ℕ → List Row → Run → Result Unit SideRefusal → Type 0
+MayRun a n rows r answer = answer ≡ unless_refused (run_refusal_on a n rows r) tt

@@ -1,34 +1,144 @@
 // The run on number slices: start, run and trace on parallel columns of rows.
 #![tactic(auto)]
 
-ghost use Rattle.std.specs.Prelude.{◌≡◌, ◌&&◌, not, cond, [], ℕ, ◌+◌, ◌<◌, ◌≤◌, eqb, length, get_or};
+ghost use Rattle.std.specs.Prelude.{◌≡◌, ◌&&◌, not, cond, [], ℕ, ◌+◌, ◌<◌, ◌≤◌, eqb, length, get_or, min, take};
 ghost use Rattle.bits.specs.Bit.{has};
 ghost use Rattle.effect.specs.Refusals.{some_below, front};
-ghost use Rattle.goals.specs.Goals.{enter, enter_all};
+ghost use Rattle.goals.specs.Goals.{enter, enter_all, known};
 ghost use Rattle.goals.specs.Run.{step, steps, run};
 ghost use Rattle.goals.specs.Refusals.{room_of, row_impossible, impossible};
-ghost use Rattle.asking.specs.Asked.{named, run_refusal_on};
 ghost use Rattle.stepping.specs.Rest.{all_goals};
-ghost use Rattle.columns.specs.Calls.{columns, row_at, rows_in, state_of, Starts, Runs, Traces};
-ghost use Rattle.columns.specs.Core.{Fits, Enters, entering, letters_of, source_of, Ready, Steps, Runnable, Rooted, climb};
+ghost use Rattle.columns.specs.Calls.{row_at, rows_in, put, lent_in, state_of, Starts, Runs, Traces};
+ghost use Rattle.columns.specs.Tables.{of_table, of_view, Same, ViewIs, RowsIs, with_row, in_all, TakesRows, GivesRows};
+ghost use Rattle.columns.specs.Core.{Fits, Enters, entering, used_of, full_of, sides_of, source_of, Ready, Steps, Runnable, Rooted, climb, MayRun};
 
 use asking::{Asked, both};
-use goals::{Row, Run, SideRefusal};
+use effect::Refusal;
+use goals::{Goal, Outcome, Row, Run, SideRefusal};
 use places::{Naming, Side};
-use stepping::{Cursor, Next, Source, next_goal};
+use stepping::{Cursor, Source, next_goal};
 
-// What start and run answer: the record of the run, or the refusal.
-#[derive(Clone, Copy)]
-pub enum Called {
-    Accepted(Run),
-    Refused(SideRefusal),
+// The rows as a caller lends them: a column for each of place, set, parent and letter, and how many rows of them are lent.
+#[derive(Drop)]
+pub struct Table<'a> {
+    pub lent: usize,
+    pub places: &'a mut [u8],
+    pub sets: &'a mut [u64],
+    pub parents: &'a mut [u16],
+    pub letters: &'a mut [u16],
 }
 
-// What trace answers: how many letters it wrote, or the refusal.
+// The same to read.
 #[derive(Clone, Copy)]
-pub enum Tracing {
-    Accepted(usize),
-    Refused(SideRefusal),
+pub struct View<'a> {
+    pub lent: usize,
+    pub places: &'a [u8],
+    pub sets: &'a [u64],
+    pub parents: &'a [u16],
+    pub letters: &'a [u16],
+}
+
+impl Table<'_> {
+    // The table to read.
+    pub fn view(&self) -> View<'_>
+        ensures { ViewIs self.now.lent (of_table self.now) result.lent (of_view result) }
+    {
+        View {
+            lent: self.lent,
+            places: self.places,
+            sets: self.sets,
+            parents: self.parents,
+            letters: self.letters,
+        }
+    }
+
+    // Writes row i.
+    fn set(&mut self, i: usize, row: Row)
+        requires { in_all i (of_table self.old) }
+        ensures row { of_table self.new ≡ with_row (of_table self.old) i row }
+        ensures same { Same self.old self.new }
+    {
+        self.places[i] = row.place;
+        self.sets[i] = row.set;
+        self.parents[i] = row.parent;
+        self.letters[i] = row.letter;
+    }
+
+    // Puts rows at the front, as many as there are and the table has.
+    pub fn take_rows(&mut self, rows: &[Row])
+        ensures rows { TakesRows self.old.lent (of_table self.old) rows.now (of_table self.new) }
+        ensures same { Same self.old self.new }
+    {
+        let n = self.view().rows().min(rows.len());
+        for (i, row) in rows[..n].iter().enumerate() {
+            self.set(i, *row);
+        }
+    }
+}
+
+impl View<'_> {
+    // How many rows are lent: as many as the caller says, and no more than the shortest column has.
+    pub fn rows(&self) -> usize
+        ensures { RowsIs self.now.lent (of_view self.now) result }
+    {
+        goals::shortest(
+            self.lent,
+            self.places.len(),
+            self.sets.len(),
+            self.parents.len(),
+            self.letters.len(),
+        )
+    }
+
+    // Row i.
+    fn row(&self, i: usize) -> Row
+        requires { in_all i (of_view self.now) }
+        ensures { result ≡ row_at (of_view self.now) i }
+    {
+        Row {
+            set: self.sets[i],
+            parent: self.parents[i],
+            letter: self.letters[i],
+            place: self.places[i],
+        }
+    }
+
+    // Puts the first n rows at the front of a list of rows, and no more than are lent or it has.
+    pub fn give_rows(&self, n: usize, rows: &mut [Row])
+        ensures { GivesRows n self.now.lent (of_view self.now) rows.old rows.new }
+    {
+        let n = n.min(self.rows()).min(rows.len());
+        for i in 0..n {
+            rows[i] = self.row(i);
+        }
+    }
+
+    // Whether one of the first `used` rows has the place and set of this row.
+    fn is_known(&self, used: usize, row: Row) -> bool
+        requires { (used ≤ length self.now.places.now) × (used ≤ length self.now.sets.now) }
+        ensures { result ≡ known row (rows_in (of_view self.now) used) }
+    {
+        let wanted = Goal {
+            place: row.place,
+            set: row.set,
+        };
+        for i in 0..used {
+            let goal = Goal {
+                place: self.places[i],
+                set: self.sets[i],
+            };
+            if goals::same_goal(goal, wanted) {
+                return true;
+            }
+        }
+        false
+    }
+}
+
+// What is left of a goal that finds no room: how many rows are used.
+#[derive(Clone, Copy)]
+struct NoRoom {
+    used: usize,
 }
 
 // The letters of a call, worked out once: s signals, and for each side which places name a signal.
@@ -39,79 +149,40 @@ struct Letters {
     right: Naming,
 }
 
-// How many rows are used once goals were entered, and whether one found no room.
+// Both sides of a call, and its letters.
 #[derive(Clone, Copy)]
-struct Entering {
-    used: usize,
-    full: bool,
+struct Sides {
+    left: Side,
+    right: Side,
+    letters: Letters,
 }
 
-// Whether one of the first `used` rows has this place and set.
-fn is_known(places: &[u8], sets: &[u64], used: usize, place: u8, set: u64) -> bool
-    requires { (used ≤ length places.now) × (used ≤ length sets.now) }
-    ensures { result ≡ some_below used (λ i. eqb (get_or places.now i 0) place && eqb (get_or sets.now i 0) set) }
+// Enters a goal: a used row has it, or it is added at the end, or there is no room. Answers how many rows are used then.
+fn enter_goal(table: &mut Table<'_>, used: usize, room: usize, goal: Row) -> Result<usize, NoRoom>
+    requires { Fits (of_table table.old) used room }
+    ensures entered { let c = of_table table.old in Enters c (of_table table.new) (enter room goal (entering (rows_in c used))) result }
+    ensures same { Same table.old table.new }
 {
-    let mut i: usize = 0;
-    while i < used {
-        if goals::same_goal(places[i], sets[i], place, set) {
-            return true;
-        }
-        i += 1;
-    }
-    false
-}
-
-// Enters a goal: a used row has it, or it is added at the end, or there is no room.
-fn enter_goal(
-    places: &mut [u8],
-    sets: &mut [u64],
-    parents: &mut [u16],
-    letters: &mut [u16],
-    used: usize,
-    room: usize,
-    goal: Row,
-) -> Entering
-    requires { Fits (columns places.old sets.old parents.old letters.old) used room }
-    ensures { let c = columns places.old sets.old parents.old letters.old in
-        Enters c (columns places.new sets.new parents.new letters.new) (enter room goal (entering (rows_in c used))) result }
-{
-    let place = goal.place;
-    let set = goal.set;
-    if is_known(places, sets, used, place, set) {
-        return Entering {
-            used: used,
-            full: false,
-        };
+    if table.view().is_known(used, goal) {
+        return Ok(used);
     }
     if used == room {
-        return Entering {
-            used: used,
-            full: true,
-        };
+        return Err(NoRoom { used });
     }
-    places[used] = place;
-    sets[used] = set;
-    parents[used] = goal.parent;
-    letters[used] = goal.letter;
-    Entering {
-        used: used + 1,
-        full: false,
-    }
+    table.set(used, goal);
+    Ok(used + 1)
 }
 
 // Enters the goals of a row, one after the other, until one finds no room.
 fn enter_goals(
-    places: &mut [u8],
-    sets: &mut [u64],
-    parents: &mut [u16],
-    letters: &mut [u16],
+    table: &mut Table<'_>,
     used: usize,
     room: usize,
     from: Source,
-) -> Entering
-    requires { Fits (columns places.old sets.old parents.old letters.old) used room }
-    ensures { let c = columns places.old sets.old parents.old letters.old in
-        Enters c (columns places.new sets.new parents.new letters.new) (enter_all room (all_goals from) (entering (rows_in c used))) result }
+) -> Result<usize, NoRoom>
+    requires { Fits (of_table table.old) used room }
+    ensures entered { let c = of_table table.old in Enters c (of_table table.new) (enter_all room (all_goals from) (entering (rows_in c used))) result }
+    ensures same { Same table.old table.new }
 {
     let mut u = used;
     let mut cur = Cursor {
@@ -120,346 +191,217 @@ fn enter_goals(
         set: 0,
         members: 0,
     };
-    loop {
-        match next_goal(from, cur) {
-            Next::Done => {
-                return Entering {
-                    used: u,
-                    full: false,
-                };
-            },
-            Next::Goal(goal, next) => {
-                let e = enter_goal(places, sets, parents, letters, u, room, goal);
-                if e.full {
-                    return e;
-                }
-                u = e.used;
-                cur = next;
-            },
-        }
+    while let Some((goal, next)) = next_goal(from, cur) {
+        u = enter_goal(table, u, room, goal)?;
+        cur = next;
     }
+    Ok(u)
 }
 
 // The record once the goals of row r are entered.
-fn settled(r: u32, e: Entering) -> Run
-    requires { (e.used < 65536) × (r < 65536) }
-    ensures { let settled : ℕ = cond e.full r (r + 1) in
-        let outcome : ℕ = cond e.full 3 (cond (eqb (r + 1) e.used) 1 0) in
-        (result.used ≡ e.used) × (result.settled ≡ settled) × (result.outcome ≡ outcome) }
+fn settled(r: u32, entered: Result<usize, NoRoom>) -> Run
+    requires { (used_of entered < 65536) × (r < 65536) }
+    ensures { let settled : ℕ = cond (full_of entered) r (r + 1) in
+        let outcome : ℕ = cond (full_of entered) 3 (cond (eqb (r + 1) (used_of entered)) 1 0) in
+        (result.used ≡ used_of entered) × (result.settled ≡ settled) × (result.outcome ≡ outcome) }
 {
-    let used = e.used as u32;
-    if e.full {
-        return Run {
+    match entered {
+        Err(NoRoom { used }) => Run {
             settled: r,
-            used: used,
-            outcome: 3,
-        };
-    }
-    if r + 1 == used {
-        return Run {
+            used: used as u32,
+            outcome: Outcome::NoRoom as u8,
+        },
+        Ok(used) => Run {
             settled: r + 1,
-            used: used,
-            outcome: 1,
-        };
-    }
-    Run {
-        settled: r + 1,
-        used: used,
-        outcome: 0,
+            used: used as u32,
+            outcome: if r + 1 == used as u32 {
+                Outcome::Included as u8
+            } else {
+                Outcome::Open as u8
+            },
+        },
     }
 }
 
-// The letters of a call on two sides.
-fn letters_of(left: Side, right: Side) -> Letters
-    ensures { result ≡ letters_of left right }
+// Both sides with the letters of a call on them.
+fn sides_of(left: Side, right: Side) -> Sides
+    ensures { result ≡ sides_of left right }
 {
-    let on_left = places::naming_of(left);
-    let on_right = places::naming_of(right);
-    Letters {
-        s: left.s,
-        left: on_left,
-        right: on_right,
+    Sides {
+        left,
+        right,
+        letters: Letters {
+            s: left.s,
+            left: places::naming_of(left),
+            right: places::naming_of(right),
+        },
     }
 }
 
 // What the goals of row r are made of, whose place and set these are.
-fn source_of(left: Side, right: Side, ls: Letters, place: u8, set: u64, r: usize) -> Source
-    requires { (ls.s ≤ 16) × (r < 65536) }
-    ensures { result ≡ source_of left right ls place set r }
+fn source_of(sides: &Sides, place: u8, set: u64, r: usize) -> Source
+    requires { (sides.now.letters.s ≤ 16) × (r < 65536) }
+    ensures { result ≡ source_of sides.now.left sides.now.right sides.now.letters place set r }
 {
-    let follow = left.follow;
-    let on_left = ls.left;
-    let on_right = ls.right;
-    let ahead = goals::followers_at(follow, place as usize);
-    let spread = goals::spread_of(right, set);
+    let letters = sides.letters;
     Source {
-        s: ls.s,
-        letters: 1 << (ls.s as u32),
-        left: on_left,
-        right: on_right,
-        follow: ahead,
-        spread: spread,
+        s: letters.s,
+        letters: 1 << (letters.s as u32),
+        left: letters.left,
+        right: letters.right,
+        follow: goals::followers_at(sides.left.follow, place as usize),
+        spread: goals::spread_of(sides.right, set),
         parent: r as u16,
     }
 }
 
 // One step of a run: row `settled` is bad, or its goals are entered.
-fn step_on(
-    places: &mut [u8],
-    sets: &mut [u64],
-    parents: &mut [u16],
-    letters: &mut [u16],
-    room: usize,
-    left: Side,
-    right: Side,
-    ls: Letters,
-    run: Run,
-) -> Run
-    requires { Ready (columns places.old sets.old parents.old letters.old) room left right ls run }
-    ensures { let c = columns places.old sets.old parents.old letters.old in
-        Steps c (columns places.new sets.new parents.new letters.new) (step left right room (state_of c run)) result }
+fn step_on(table: &mut Table<'_>, room: usize, sides: &Sides, run: Run) -> Run
+    requires { Ready (of_table table.old) room sides.now.left sides.now.right sides.now.letters run }
+    ensures steps { let c = of_table table.old in Steps c (of_table table.new) (step sides.now.left sides.now.right room (state_of c run)) result }
+    ensures same { Same table.old table.new }
 {
     let r = run.settled as usize;
-    let place = places[r];
-    let set = sets[r];
-    if goals::is_bad(left.accepts, right.accepts, place, set) {
+    let w = table.view().row(r);
+    let goal = Goal {
+        place: w.place,
+        set: w.set,
+    };
+    if goals::is_bad(sides.left.accepts, sides.right.accepts, goal) {
         return Run {
-            settled: run.settled,
-            used: run.used,
-            outcome: 2,
+            outcome: Outcome::Refuted as u8,
+            ..run
         };
     }
-    let from = source_of(left, right, ls, place, set, r);
-    let e = enter_goals(
-        places,
-        sets,
-        parents,
-        letters,
-        run.used as usize,
-        room,
-        from,
-    );
-    settled(run.settled, e)
+    let from = source_of(sides, w.place, w.set, r);
+    let entered = enter_goals(table, run.used as usize, room, from);
+    settled(run.settled, entered)
 }
 
-// At most `budget` steps, up to the first that leaves another outcome than 0.
-fn steps_on(
-    places: &mut [u8],
-    sets: &mut [u64],
-    parents: &mut [u16],
-    letters: &mut [u16],
-    room: usize,
-    left: Side,
-    right: Side,
-    ls: Letters,
-    run: Run,
-    budget: u64,
-) -> Run
-    requires { Ready (columns places.old sets.old parents.old letters.old) room left right ls run }
-    ensures { let c = columns places.old sets.old parents.old letters.old in
-        Steps c (columns places.new sets.new parents.new letters.new) (steps left right room budget (state_of c run)) result }
+// At most `budget` steps, up to the first that leaves the run other than open.
+fn steps_on(table: &mut Table<'_>, room: usize, sides: &Sides, run: Run, budget: u64) -> Run
+    requires { Ready (of_table table.old) room sides.now.left sides.now.right sides.now.letters run }
+    ensures steps { let c = of_table table.old in Steps c (of_table table.new) (steps sides.now.left sides.now.right room budget (state_of c run)) result }
+    ensures same { Same table.old table.new }
 {
     let mut cur = run;
-    let mut b: u64 = 0;
-    while b < budget {
-        let next = step_on(places, sets, parents, letters, room, left, right, ls, cur);
-        if next.outcome != 0 {
+    for _b in 0..budget {
+        let next = step_on(table, room, sides, cur);
+        if next.outcome != Outcome::Open as u8 {
             return next;
         }
         cur = next;
-        b += 1;
     }
     cur
 }
 
 // A run call on two sides: a decided run stays, and any other goes on.
 fn run_sides(
-    places: &mut [u8],
-    sets: &mut [u64],
-    parents: &mut [u16],
-    letters: &mut [u16],
+    table: &mut Table<'_>,
     room: usize,
     left: Side,
     right: Side,
     held: Run,
     budget: u64,
 ) -> Run
-    requires { Runnable (columns places.old sets.old parents.old letters.old) room left right held }
-    ensures { let c = columns places.old sets.old parents.old letters.old in
-        Steps c (columns places.new sets.new parents.new letters.new) (run left right room budget (state_of c held)) result }
+    requires { Runnable (of_table table.old) room left right held }
+    ensures steps { let c = of_table table.old in Steps c (of_table table.new) (run left right room budget (state_of c held)) result }
+    ensures same { Same table.old table.new }
 {
-    if held.outcome == 1 {
+    if held.outcome == Outcome::Included as u8 {
         return held;
     }
-    if held.outcome == 2 {
+    if held.outcome == Outcome::Refuted as u8 {
         return held;
     }
-    let ls = letters_of(left, right);
-    steps_on(
-        places, sets, parents, letters, room, left, right, ls, held, budget,
-    )
-}
-
-// Row i of the columns.
-fn row_at(places: &[u8], sets: &[u64], parents: &[u16], letters: &[u16], i: usize) -> Row
-    requires { (i < length places.now) × (i < length sets.now) × (i < length parents.now) × (i < length letters.now) }
-    ensures { result ≡ row_at (columns places.now sets.now parents.now letters.now) i }
-{
-    Row {
-        set: sets[i],
-        parent: parents[i],
-        letter: letters[i],
-        place: places[i],
-    }
+    let sides = sides_of(left, right);
+    steps_on(table, room, &sides, held, budget)
 }
 
 // Refusal 16 of the used rows but row 0.
-fn some_row_impossible(
-    places: &[u8],
-    sets: &[u64],
-    parents: &[u16],
-    letters: &[u16],
-    used: usize,
-    s: u8,
-    m: u8,
-    k: u8,
-) -> bool
-    requires { Fits (columns places.now sets.now parents.now letters.now) 1 used }
-    ensures { result ≡ some_below used (λ i. not (eqb i 0) && row_impossible s m k i (row_at (columns places.now sets.now parents.now letters.now) i)) }
+fn some_row_impossible(view: &View<'_>, used: usize, s: u8, m: u8, k: u8) -> bool
+    requires { Fits (of_view view.now) 1 used }
+    ensures { result ≡ some_below used (λ i. not (eqb i 0) && row_impossible s m k i (row_at (of_view view.now) i)) }
 {
-    let mut i: usize = 1;
-    while i < used {
-        let w = row_at(places, sets, parents, letters, i);
-        if goals::row_impossible(s, m, k, i, w) {
+    for i in 1..used {
+        if goals::row_impossible(s, m, k, i, view.row(i)) {
             return true;
         }
-        i += 1;
     }
     false
 }
 
 // Refusal 16 of a record and its rows.
-fn is_impossible(
-    places: &[u8],
-    sets: &[u64],
-    parents: &[u16],
-    letters: &[u16],
-    room: usize,
-    s: u8,
-    m: u8,
-    k: u8,
-    held: Run,
-) -> bool
-    requires { Fits (columns places.now sets.now parents.now letters.now) 0 room }
-    ensures { result ≡ impossible s m k room (rows_in (columns places.now sets.now parents.now letters.now) held.used) held }
+fn is_impossible(view: &View<'_>, room: usize, s: u8, m: u8, k: u8, held: Run) -> bool
+    requires { Fits (of_view view.now) 0 room }
+    ensures { result ≡ impossible s m k room (rows_in (of_view view.now) held.used) held }
 {
     if goals::record_impossible(room, held) {
         return true;
     }
-    let zero = row_at(places, sets, parents, letters, 0);
-    if goals::row_zero_impossible(zero) {
+    if goals::row_zero_impossible(view.row(0)) {
         return true;
     }
-    some_row_impossible(places, sets, parents, letters, held.used as usize, s, m, k)
+    some_row_impossible(view, held.used as usize, s, m, k)
 }
 
 // Begins a run: writes row 0 and answers the record.
-pub fn start_on(
-    asked: Asked,
-    lent: usize,
-    places: &mut [u8],
-    sets: &mut [u64],
-    parents: &mut [u16],
-    letters: &mut [u16],
-) -> Called
-    ensures { Starts asked lent (columns places.old sets.old parents.old letters.old) result (columns places.new sets.new parents.new letters.new) }
+pub fn start_on(asked: Asked, table: &mut Table<'_>) -> Result<Run, SideRefusal>
+    ensures starts { Starts asked table.old.lent (of_table table.old) result (of_table table.new) }
+    ensures same { Same table.old table.new }
 {
-    let why = asking::why_not(asked);
-    if why.refusal.number != 0 {
-        return Called::Refused(why);
+    asking::why_not(asked)?;
+    if table.view().rows() == 0 {
+        return Err(both(Refusal::NoRows as u8));
     }
-    let rows = goals::shortest(lent, places.len(), sets.len(), parents.len(), letters.len());
-    if rows == 0 {
-        return Called::Refused(both(15));
-    }
-    places[0] = 0;
-    sets[0] = 1;
-    parents[0] = 0;
-    letters[0] = 0;
-    Called::Accepted(Run {
+    table.set(
+        0,
+        Row {
+            place: 0,
+            set: 1,
+            parent: 0,
+            letter: 0,
+        },
+    );
+    Ok(Run {
         settled: 0,
         used: 1,
-        outcome: 0,
+        outcome: Outcome::Open as u8,
     })
 }
 
-// Why run and trace are refused, of n rows lent: for the sides, or 16 for the record and its rows; number 0 where they are not.
-fn run_refusal(
-    asked: Asked,
-    n: usize,
-    places: &[u8],
-    sets: &[u64],
-    parents: &[u16],
-    letters: &[u16],
-    held: Run,
-) -> SideRefusal
-    requires { Fits (columns places.now sets.now parents.now letters.now) 0 (room_of n) }
-    ensures { result ≡ named (run_refusal_on asked n (rows_in (columns places.now sets.now parents.now letters.now) held.used) held) }
+// Whether run and trace go on: not with sides that are refused, nor with a record or rows that are impossible (16).
+fn may_run(sides: Asked, view: &View<'_>, held: Run) -> Result<(), SideRefusal>
+    ensures { MayRun sides (lent_in view.now.lent (of_view view.now)) (rows_in (of_view view.now) held.used) held result }
 {
-    let of_sides = asking::why_not(asked);
-    if of_sides.refusal.number != 0 {
-        return of_sides;
-    }
-    let left = asked.left;
-    let right = asked.right;
-    let room = goals::room_of(n);
+    asking::why_not(sides)?;
+    let room = goals::room_of(view.rows());
     if is_impossible(
-        places,
-        sets,
-        parents,
-        letters,
+        view,
         room,
-        left.s,
-        left.count,
-        right.count,
+        sides.left.s,
+        sides.left.count,
+        sides.right.count,
         held,
     ) {
-        return both(16);
+        return Err(both(Refusal::RunImpossible as u8));
     }
-    of_sides
+    Ok(())
 }
 
 // Goes on with a run for at most `budget` steps.
 pub fn run_on(
     asked: Asked,
-    lent: usize,
-    places: &mut [u8],
-    sets: &mut [u64],
-    parents: &mut [u16],
-    letters: &mut [u16],
+    table: &mut Table<'_>,
     run: Run,
     budget: u64,
-) -> Called
-    ensures { Runs asked lent (columns places.old sets.old parents.old letters.old) run budget result (columns places.new sets.new parents.new letters.new) }
+) -> Result<Run, SideRefusal>
+    ensures runs { Runs asked table.old.lent (of_table table.old) run budget result (of_table table.new) }
+    ensures same { Same table.old table.new }
 {
-    let n = goals::shortest(lent, places.len(), sets.len(), parents.len(), letters.len());
-    let why = run_refusal(asked, n, places, sets, parents, letters, run);
-    if why.refusal.number != 0 {
-        return Called::Refused(why);
-    }
-    let room = goals::room_of(n);
-    let next = run_sides(
-        places,
-        sets,
-        parents,
-        letters,
-        room,
-        asked.left,
-        asked.right,
-        run,
-        budget,
-    );
-    Called::Accepted(next)
+    may_run(asked, &table.view(), run)?;
+    let room = goals::room_of(table.view().rows());
+    Ok(run_sides(table, room, asked.left, asked.right, run, budget))
 }
 
 // How many rows the way from row 0 to a row has, itself counted and row 0 not.
@@ -495,30 +437,22 @@ fn put_trace(parents: &[u16], letters: &[u16], used: usize, row: usize, n: usize
 // Writes the letters from row 0 to the refuted row, and answers how many.
 pub fn trace_on(
     asked: Asked,
-    lent: usize,
-    places: &[u8],
-    sets: &[u64],
-    parents: &[u16],
-    letters: &[u16],
+    view: &View<'_>,
     run: Run,
     out: &mut [u8],
-) -> Tracing
-    ensures { Traces asked lent (columns places.now sets.now parents.now letters.now) run out.old result out.new }
+) -> Result<usize, SideRefusal>
+    ensures { Traces asked view.now.lent (of_view view.now) run out.old result out.new }
 {
-    let n = goals::shortest(lent, places.len(), sets.len(), parents.len(), letters.len());
-    let why = run_refusal(asked, n, places, sets, parents, letters, run);
-    if why.refusal.number != 0 {
-        return Tracing::Refused(why);
-    }
-    if run.outcome != 2 {
-        return Tracing::Refused(both(17));
+    may_run(asked, view, run)?;
+    if run.outcome != Outcome::Refuted as u8 {
+        return Err(both(Refusal::NotRefuted as u8));
     }
     let used = run.used as usize;
     let row = run.settled as usize;
-    let n = trace_length(parents, used, row);
+    let n = trace_length(view.parents, used, row);
     if out.len() < n {
-        return Tracing::Refused(both(18));
+        return Err(both(Refusal::BufferTooShort as u8));
     }
-    put_trace(parents, letters, used, row, n, out);
-    Tracing::Accepted(n)
+    put_trace(view.parents, view.letters, used, row, n, out);
+    Ok(n)
 }

@@ -1,5 +1,6 @@
 -- The promises of the calls on rows, from those of the calls on columns: the columns were loaded with the used rows, and the rows that
 -- the core leaves were stored at the front of the table. Each law has the shape that the proof of its call ends with.
+use Rattle.std.specs.Prelude.{Result, Ok, Err}
 use Prim.Native.Nat.{ℕ, zero, suc, ◌≤◌, min}
 use mathlib.Core.Path.{◌≡◌, refl, sym, ap, subst, ◌∙◌}
 use mathlib.Core.Bool.{Bool, true, false, cond, ◌||◌}
@@ -15,6 +16,7 @@ use Rattle.effect.specs.Refusals.{front, some_below}
 use Rattle.goals.specs.Goals.{row_zero}
 use Rattle.goals.specs.declared.Row.{Row}
 use Rattle.goals.specs.declared.Run.{Run}
+use Rattle.goals.specs.declared.SideRefusal.{SideRefusal}
 use Rattle.places.specs.declared.Side.{Side}
 use Rattle.goals.specs.Run.{State, started, step, steps, run}
 use Rattle.goals.specs.Refusals.{Given, room_of, record_impossible, row_zero_impossible, impossible, Against, against, start_rules, Reply}
@@ -22,56 +24,20 @@ use Rattle.asking.specs.declared.Asked.{Asked}
 use Rattle.asking.specs.Asked.{asked_of, asked_rules, start_refusal_on, run_refusal_on, run_after_on}
 use Rattle.asking.proofs.Refusing.{first-none, first-parts, leaves-same}
 use Rattle.asking.proofs.Asking.{start-asked, run-asked, trace-asked, after-asked}
-use Rattle.columns.specs.declared.Called.{Called}
-use Rattle.columns.specs.declared.Called.TheVariants as called-variants
-use Rattle.columns.specs.declared.Tracing.{Tracing}
 use Rattle.columns.specs.Calls as core
 use Rattle.columns.specs.Calls.{Columns, columns, lent_in, rows_in, put, tracing}
 use Rattle.columns.proofs.Laws.{rows-put}
 use Rattle.columns.proofs.Budget.{step-stepped}
 use Rattle.columns.proofs.Possible.{record-counts}
-use Rattle.demands.specs.Calls.{Lent, lent, used_in, holding, Starts, Runs, Traces, Accepted}
+use Rattle.demands.specs.Calls.{Lent, lent, used_in, holding, Starts, Runs, Traces}
 use Rattle.demands.proofs.Accepting.{accepted-leaves}
 use Rattle.demands.proofs.Calling.{room-lent}
 use Rattle.compare.proofs.Core.{told, stored, core-starts, core-runs, core-traces}
-use Rattle.compare.specs.declared.Next.{Next}
 use Rattle.compare.specs.declared.Work.{Work}
 use Rattle.compare.specs.declared.Work.TheVariants as work-variants
 use Rattle.compare.specs.Calls.{answered, work_refusal, work_after, Works, TracesAsked}
-use Rattle.compare.specs.Core.{next_of, to_load, WorksIn, WorksOn}
-use Rattle.compare.proofs.Laws.{loaded-length}
-
--- ---- the core's answer and what it stores, as they are told and stored here
-module _ (rows : List Row) (held : Run) (c : Columns) where
-  told_is : (answer : Called) → told answer ≡ answered (next_of answer held).answer
-  unfolding answered next_of core.called
-  told_is (called-variants.Accepted r) = refl
-  told_is (called-variants.Refused why) = refl
-
-  stored_is : (answer : Called) → stored answer c (lent rows held) ≡ lent (front (rows_in c (next_of answer held).rows) rows) (next_of answer held).run
-  unfolding stored next_of rows_in
-  stored_is (called-variants.Accepted r) = refl
-  stored_is (called-variants.Refused why) = refl
-
-  -- what holds of them holds of the answer and of what is left
-  now-is : (P : Reply → Lent → Type 0) (answer : Called) (r : Next) (rows' : List Row) (held' : Run) → r ≡ next_of answer held
-      → rows' ≡ front (rows_in c r.rows) rows → held' ≡ r.run → P (told answer) (stored answer c (lent rows held)) → P (answered r.answer) (lent rows' held')
-  now-is P answer r rows' held' e stays record_is p =
-      let reply : told answer ≡ answered r.answer = told_is answer ∙ ap (λ (n : Next). answered n.answer) (sym e) in
-      let left : stored answer c (lent rows held) ≡ lent (front (rows_in c r.rows) rows) r.run =
-      stored_is answer ∙ ap (λ (n : Next). lent (front (rows_in c n.rows) rows) n.run) (sym e) in
-      let there : lent (front (rows_in c r.rows) rows) r.run ≡ lent rows' held' = λ i. lent (sym stays i) (sym record_is i) in
-      subst (λ (reply : Reply). P reply (lent rows' held')) reply (subst (P (told answer)) (left ∙ there) p)
-
-  -- no more rows are stored than an accepted call uses
-  stores-within : (bound : ℕ) (answer : Called) (r : Next) → r ≡ next_of answer held
-      → (Accepted (told answer) → (stored answer c (lent rows held)).held.used ≤ bound) → r.rows ≤ bound
-  unfolding next_of stored core.called
-  stores-within bound answer r e within = subst (λ (n : Next). n.rows ≤ bound) (sym e) (by answer within)
-    where
-      by : (answer : Called) → (Accepted (told answer) → (stored answer c (lent rows held)).held.used ≤ bound) → (next_of answer held).rows ≤ bound
-      by (called-variants.Accepted w) within = within refl
-      by (called-variants.Refused why) within = omega arith
+use Rattle.compare.specs.Core.{to_load, WorksIn}
+use Rattle.columns.proofs.Rows.{column-length}
 
 one-fits : (n : ℕ) → (n ≡ 0 → ⊥) → 1 ≤ room_of n
 unfolding room_of
@@ -116,16 +82,6 @@ after-within (work-variants.Run budget) a l e =
     let fits : l.held.used ≤ room_of (length l.rows) = possible-fits _ _ _ _ (used_in l) l.held ((rule-none 15 _).0 (first-none _ _ z).0) in
     run-within a.left a.right (room_of (length l.rows)) budget _ (omega (arith, length-take l.held.used l.rows, fits))
 
--- ---- each case of the work is its call on columns
-module _ (work : Work) (a : Asked) (n : ℕ) (c : Columns) (held : Run) (answer : Called) (r : Next) (c' : Columns) (e : r ≡ next_of answer held) where
-  pub starts-in : work-variants.Start ≡ work → core.Starts a n c answer c' → WorksOn work a n c held r c'
-  unfolding WorksIn
-  starts-in w h = (answer, subst (λ (x : Work). WorksIn x a n c held answer c') w h, e)
-
-  pub runs-in : (budget : ℕ) → work-variants.Run budget ≡ work → core.Runs a n c held budget answer c' → WorksOn work a n c held r c'
-  unfolding WorksIn
-  runs-in budget w h = (answer, subst (λ (x : Work). WorksIn x a n c held answer c') w h, e)
-
 -- ---- on columns of 65,535 rows that were loaded with the first n rows
 -- what `load` asks of the number of rows: of those that are used, and of those that a call loads
 abbrev pub Loadable : ℕ → ℕ → Type 0
@@ -146,7 +102,7 @@ room-again lent = let z : min 65535 (min lent 65535) ≡ min 65535 lent = omega 
 module _ (rows : List Row) (held : Run) (n : ℕ) (fits : Loadable n (length rows)) (zs : List ℕ) (long : length zs ≡ 65535) (c : Columns)
     (loaded : c ≡ put (take n rows) (columns zs zs zs zs)) where
   column-long : (f : Row → ℕ) → length (front (map f (take n rows)) zs) ≡ 65535
-  column-long f = loaded-length f n rows zs fits.0 (omega (arith, long, fits.1)) ∙ long
+  column-long f = column-length f n rows zs fits.0 (omega (arith, long, fits.1)) ∙ long
 
   -- every column is as long as it was, so the room is the table's,
   same-room : room_of (lent_in (length rows) c) ≡ room_of (length rows)
@@ -171,41 +127,56 @@ module _ (rows : List Row) (held : Run) (n : ℕ) (fits : Loadable n (length row
 
 -- ---- trace, where the used rows were loaded
 pub traces-rows : (rows : List Row) (held : Run) (n : ℕ) → n ≡ min (room_of (length rows)) held.used → (zs : List ℕ) → length zs ≡ 65535 → (c : Columns) → c ≡ put (take n rows) (columns zs zs zs zs)
-    → (a : Asked) (out out' : List ℕ) (r : Tracing) → core.Traces a (length rows) c held out r out' → TracesAsked a (lent rows held) out (tracing r) out'
+    → (a : Asked) (out out' : List ℕ) (r : Result ℕ SideRefusal) → core.Traces a (length rows) c held out r out' → TracesAsked a (lent rows held) out (tracing r) out'
 traces-rows rows held n e zs long c loaded a out out' r s =
     let fits = used-loadable n held.used (length rows) e in
     core-traces a (length rows) c r (lent rows held) out out' (same-room rows held n fits zs long c loaded) (same_rows rows held n fits zs long c loaded e) s
 
 -- ---- start and run, where the rows that the work asks for were loaded
 module _ (work : Work) (rows : List Row) (held : Run) (n : ℕ) (e : n ≡ to_load work held.used (length rows)) (zs : List ℕ) (long : length zs ≡ 65535) (c : Columns)
-    (loaded : c ≡ put (take n rows) (columns zs zs zs zs)) (a : Asked) (r : Next) (c' : Columns) (s : WorksOn work a (length rows) c held r c') where
-  work-told : Works work a (lent rows held) (told s.0) (stored s.0 c' (lent rows held))
+    (loaded : c ≡ put (take n rows) (columns zs zs zs zs)) (a : Asked) (answer : Result Run SideRefusal) (c' : Columns) (s : WorksIn work a (length rows) c held answer c') where
+  fits : Loadable n (length rows)
+  fits = work-loadable work n held.used (length rows) e
+
+  work-told : Works work a (lent rows held) (told answer) (stored answer c' (lent rows held))
   unfolding WorksIn work_refusal work_after to_load
-  work-told = by work e s.1
+  work-told = by work e s
     where
-      fits : Loadable n (length rows)
-      fits = work-loadable work n held.used (length rows) e
-
-      by : (w : Work) → n ≡ to_load w held.used (length rows) → WorksIn w a (length rows) c held s.0 c' → Works w a (lent rows held) (told s.0) (stored s.0 c' (lent rows held))
-      by work-variants.Start e p = core-starts a (length rows) c c' s.0 (lent rows held) (some-row rows held n fits zs long c loaded) p
+      by : (w : Work) → n ≡ to_load w held.used (length rows) → WorksIn w a (length rows) c held answer c' → Works w a (lent rows held) (told answer) (stored answer c' (lent rows held))
+      by work-variants.Start e p = core-starts a (length rows) c c' answer (lent rows held) (some-row rows held n fits zs long c loaded) p
       by (work-variants.Run budget) e p =
-          core-runs a (length rows) c c' s.0 (lent rows held) budget (same-room rows held n fits zs long c loaded) (same_rows rows held n fits zs long c loaded e) p
+          core-runs a (length rows) c c' answer (lent rows held) budget (same-room rows held n fits zs long c loaded) (same_rows rows held n fits zs long c loaded e) p
 
-  pub works-rows : (rows' : List Row) (held' : Run) → rows' ≡ front (rows_in c' r.rows) rows → held' ≡ r.run
-      → Works work a (lent rows held) (answered r.answer) (lent rows' held')
-  works-rows rows' held' stays record_is = now-is rows held c' (Works work a (lent rows held)) s.0 r rows' held' s.2 stays record_is work-told
+  -- a refusal leaves the rows and the record
+  pub works-refused : (why : SideRefusal) → answer ≡ Err why → Works work a (lent rows held) (answered (Err why)) (lent rows held)
+  unfolding answered core.called stored
+  works-refused why h = subst (λ (x : Result Run SideRefusal). Works work a (lent rows held) (told x) (stored x c' (lent rows held))) h work-told
 
-  work-accepted : Accepted (told s.0) → (stored s.0 c' (lent rows held)).held.used ≤ room_of (length rows)
-  work-accepted h =
-      let u = accepted-leaves (told s.0) _ [] (holding (work_after work a (lent rows held)) (lent rows held)) (lent rows held) (stored s.0 c' (lent rows held)) work-told h in
-      omega (arith, after-within work a (lent rows held) u.0, ap (λ (l : Lent). l.held.used) u.1)
+  module _ (r : Run) (h : answer ≡ Ok r) where
+    told-ok : Works work a (lent rows held) (answered (Ok tt)) (lent (front (rows_in c' r.used) rows) r)
+    unfolding answered core.called stored
+    told-ok = subst (λ (x : Result Run SideRefusal). Works work a (lent rows held) (told x) (stored x c' (lent rows held))) h work-told
 
-  -- what `store` asks of the number of rows
-  pub work-fits : (r.rows ≤ length rows) × (r.rows ≤ 65535)
-  work-fits = let u = room-lent (length rows) in (
-    stores-within rows held c' (length rows) s.0 r s.2 (λ a. omega (arith, work-accepted a, u.0)),
-    stores-within rows held c' 65535 s.0 r s.2 (λ a. omega (arith, work-accepted a, u.1)),
-  )
+    -- an accepted call uses no more rows than the room has
+    used-within : r.used ≤ room_of (length rows)
+    unfolding answered
+    used-within =
+        let u = accepted-leaves (answered (Ok tt)) _ [] (holding (work_after work a (lent rows held)) (lent rows held)) (lent rows held) (lent (front (rows_in c' r.used) rows) r) told-ok refl in
+        omega (arith, after-within work a (lent rows held) u.0, ap (λ (l : Lent). l.held.used) u.1)
+
+    -- so all of them are stored
+    pub works-accepted : (rows' : List Row) → lent_in (length rows) c' ≡ lent_in (length rows) c
+        → rows' ≡ front (rows_in c' (min r.used (min (lent_in (length rows) c') (length rows)))) rows
+        → Works work a (lent rows held) (answered (Ok tt)) (lent rows' r)
+    works-accepted rows' same given =
+        subst (λ (x : List Row). Works work a (lent rows held) (answered (Ok tt)) (lent x r)) (sym (given ∙ ap (λ (k : ℕ). front (rows_in c' k) rows) all)) told-ok
+      where
+        all : min r.used (min (lent_in (length rows) c') (length rows)) ≡ r.used
+        all =
+            let u = room-lent (length rows) in
+            let room : room_of (lent_in (length rows) c) ≡ room_of (length rows) = same-room rows held n fits zs long c loaded in
+            let w = room-lent (lent_in (length rows) c) in
+            omega (arith, used-within, u.0, u.1, w.0, same, room)
 
 -- ---- the calls on two tables are the calls on the sides that `ask` makes of them
 pub starts-given : (g : Given) (a : Asked) → a ≡ asked_of g → (l : Lent) (reply : Reply) (l' : Lent) → Works work-variants.Start a l reply l' → Starts g l reply l'

@@ -1,5 +1,6 @@
 -- The promises of the calls on a list of rows follow from those of the core on columns, where the columns hold the used rows and what
 -- the core leaves is stored at the front of the table. Where the used rows do not fit the room, both refuse 16 whatever the rows are.
+use Rattle.std.specs.Prelude.{Result, Ok, Err}
 use Prim.Native.Nat.{ℕ, ◌≤◌}
 use mathlib.Core.Path.{◌≡◌, refl, sym, ap, ◌∙◌}
 use mathlib.Core.Bool.{Bool, true, false, cond, not, or-true}
@@ -12,11 +13,9 @@ use borrow.Author.Tests.{eq-eqb, ne_eqb, eqb-true, eqb-false, ltb-false}
 use Rattle.effect.specs.Refusals.{rule, front}
 use Rattle.goals.specs.declared.Row.{Row}
 use Rattle.goals.specs.declared.Run.{Run}
+use Rattle.goals.specs.declared.SideRefusal.{SideRefusal}
 use Rattle.goals.specs.Run.{State, state, started, run, trace_of}
 use Rattle.goals.specs.Refusals.{room_of, record_of, record_impossible, impossible, Against, against, first, refusal_by, Reply, Leaves, leaves, exit, values_of}
-use Rattle.columns.specs.declared.Called.{Called}
-use Rattle.columns.specs.declared.Called.TheVariants as called-variants
-use Rattle.columns.specs.declared.Tracing.{Tracing}
 use Rattle.columns.specs.Calls as core
 use Rattle.columns.specs.Calls.{Columns, rows_in, put, lent_in, called, tracing}
 use Rattle.columns.proofs.Budget.{state-held}
@@ -26,19 +25,19 @@ use Rattle.asking.proofs.Refusing.{leaves-refused}
 use Rattle.demands.specs.Calls.{Lent, lent, used_in, holding}
 
 -- the core's reply without its values, which go into the record lent
-abbrev pub told : Called → Reply
+abbrev pub told : Result Run SideRefusal → Reply
 told answer = record { refusal = (called answer).refusal; values = [] }
 
 -- what is left on rows: on acceptance the rows that the columns now hold at the front of the table and the record that the answer
 -- tells, on a refusal what was lent
-unfoldable pub stored : Called → Columns → Lent → Lent
-stored (called-variants.Accepted r) c l = lent (front (rows_in c r.used) l.rows) r
-stored (called-variants.Refused why) c l = l
+unfoldable pub stored : Result Run SideRefusal → Columns → Lent → Lent
+stored (Ok r) c l = lent (front (rows_in c r.used) l.rows) r
+stored (Err why) c l = l
 
 -- ---- what the core leaves, stored
 module _ (c c' : Columns) (st : State) (why : Against) (l : Lent) where
   -- the record that an accepted answer tells is the state's, and so are the rows
-  accepted : (r : Run) → exit (called (called-variants.Accepted r)) c' ≡ leaves (against 0 0) (values_of (record_of st)) (put st.rows c) c
+  accepted : (r : Run) → exit (called (Ok r)) c' ≡ leaves (against 0 0) (values_of (record_of st)) (put st.rows c) c
       → lent (front (rows_in c' r.used) l.rows) r ≡ holding st l
   unfolding called
   accepted r h =
@@ -52,14 +51,14 @@ module _ (c c' : Columns) (st : State) (why : Against) (l : Lent) where
   refused e z = omega (arith, ap length (rw (eq-eqb _ _ z) at e))
 
   -- the promise on columns is the one on rows
-  stores : (answer : Called) → exit (called answer) c' ≡ leaves why (values_of (record_of st)) (put st.rows c) c
+  stores : (answer : Result Run SideRefusal) → exit (called answer) c' ≡ leaves why (values_of (record_of st)) (put st.rows c) c
       → exit (told answer) (stored answer c' l) ≡ leaves why [] (holding st l) l
   unfolding called stored
-  stores (called-variants.Accepted r) h =
+  stores (Ok r) h =
       let e : against 0 0 ≡ why = ap (λ (k : Leaves Columns). k.reply.refusal) h in
       ap (exit (record { refusal = against 0 0; values = [] })) (accepted r (h ∙ ap (λ (w : Against). leaves w (values_of (record_of st)) (put st.rows c) c) (sym e)))
       ∙ ap (λ (w : Against). leaves w [] (holding st l) l) e
-  stores (called-variants.Refused w) h =
+  stores (Err w) h =
       ap (λ (a : Against). exit (record { refusal = a; values = [] }) l) (ap (λ (k : Leaves Columns). k.reply.refusal) h)
       ∙ leaves-refused why [] (holding st l) l (refused (ap (λ (k : Leaves Columns). k.reply.values) h))
 
@@ -73,7 +72,7 @@ start-same a m n h = ap (λ (t : Bool). refusal_by (asked_rules a) (rule 15 t �
     by true e = eq-eqb m 0 (h.1 (eqb-true n 0 e))
     by false e = ne_eqb m 0 (λ z. eqb-false n 0 e (h.0 z))
 
-pub core-starts : (a : Asked) (n : ℕ) (c c' : Columns) (answer : Called) (l : Lent) → ((lent_in n c ≡ 0) ↔ (length l.rows ≡ 0))
+pub core-starts : (a : Asked) (n : ℕ) (c c' : Columns) (answer : Result Run SideRefusal) (l : Lent) → ((lent_in n c ≡ 0) ↔ (length l.rows ≡ 0))
     → core.Starts a n c answer c'
     → exit (told answer) (stored answer c' l) ≡ leaves (start_refusal_on a (length l.rows)) [] (holding started l) l
 core-starts a n c c' answer l h s =
@@ -124,7 +123,7 @@ module _ {L : Type 0} (a : Asked) (r : Run) (rest values : List Row → List ℕ
       by false h = λ i. asks (e i) (same (ltb-false _ _ h) i)
 
 -- the core is lent columns of as much room, which hold the used rows where these fit it
-pub core-runs : (a : Asked) (n : ℕ) (c c' : Columns) (answer : Called) (l : Lent) (budget : ℕ) → room_of (lent_in n c) ≡ room_of (length l.rows)
+pub core-runs : (a : Asked) (n : ℕ) (c c' : Columns) (answer : Result Run SideRefusal) (l : Lent) (budget : ℕ) → room_of (lent_in n c) ≡ room_of (length l.rows)
     → (l.held.used ≤ room_of (length l.rows) → rows_in c l.held.used ≡ used_in l)
     → core.Runs a n c l.held budget answer c'
     → exit (told answer) (stored answer c' l)
@@ -135,7 +134,7 @@ core-runs a n c c' answer l budget room same h =
     ∙ asks-same a l.held (λ rows. []) (λ rows. [])
     (λ room rows. holding (run a.left a.right room budget (state rows l.held.settled l.held.outcome)) l) l _ _ _ _ room same
 
-pub core-traces : (a : Asked) (n : ℕ) (c : Columns) (answer : Tracing) (l : Lent) (out out' : List ℕ) → room_of (lent_in n c) ≡ room_of (length l.rows)
+pub core-traces : (a : Asked) (n : ℕ) (c : Columns) (answer : Result ℕ SideRefusal) (l : Lent) (out out' : List ℕ) → room_of (lent_in n c) ≡ room_of (length l.rows)
     → (l.held.used ≤ room_of (length l.rows) → rows_in c l.held.used ≡ used_in l)
     → core.Traces a n c l.held out answer out'
     → let word = trace_of (used_in l) l.held.settled in exit (tracing answer) out'

@@ -1,4 +1,3 @@
-pub mod Laws
 pub mod Core
 pub mod Calling
 pub mod Loading

@@ -1,9 +1,11 @@
--- What call and trace_asked share: columns of 65,535 zeros, and what `load` asks of the number of rows.
-use Rattle.std.proofs.Common.{◌≡◌, refl, sym, ap, ◌∙◌, ℕ, ◌≤◌, arith, List, length}
+-- What call and trace_asked share: columns of 65,535 zeros, and the rows that they take.
+use Rattle.std.proofs.Common.{◌≡◌, refl, sym, ap, ◌∙◌, ℕ, min, arith, List, length, take}
 use lib.ListN.{replicate, length-replicate}
+use lib.Seq.{take-length, length-take-le}
+use Rattle.std.proofs.lemmas.List.{take_min}
 use Rattle.goals.specs.declared.Row.{Row}
-use Rattle.columns.specs.Calls.{Columns, columns}
-use Rattle.compare.specs.Core.{LongEnough}
+use Rattle.columns.specs.Calls.{Columns, columns, put, lent_in}
+use Rattle.columns.specs.Tables.{TakesRows}
 use Rattle.compare.proofs.Calling.{Loadable}
 
 -- ---- a column before it is loaded, behind a name that nothing computes
@@ -20,5 +22,10 @@ zeros-long = ap length (sym zeros-is) ∙ length-replicate {A = ℕ} 65535 0
 abbrev pub empty : Columns
 empty = columns zeros zeros zeros zeros
 
-pub loadable-reaches : (n : ℕ) (rows : List Row) → Loadable n (length rows) → LongEnough n rows empty
-loadable-reaches n rows u = let z : n ≤ length zeros = omega (arith, u.1, zeros-long) in (u.0, z, z, z, z)
+-- the rows taken by columns that have as many: all of them
+pub taken-all : (n : ℕ) (rows : List Row) → Loadable n (length rows) → (c : Columns) → TakesRows (length rows) empty (take n rows) c → c ≡ put (take n rows) empty
+taken-all n rows u c h =
+    let m : ℕ = lent_in (length rows) empty in
+    let size = length-take-le n rows u.0 in
+    let few : min m (length (take n rows)) ≡ length (take n rows) = omega (arith, size, u.0, u.1, zeros-long) in
+    h ∙ ap (λ (l : List Row). put l empty) (sym (take_min m (take n rows)) ∙ ap (λ (k : ℕ). take k (take n rows)) few ∙ take-length (take n rows))

@@ -1,20 +1,19 @@
 -- What the calls on rows answer and leave: on any two sides by value.
-use Rattle.std.specs.Prelude.{ℕ, ◌≡◌, List, [], ◌∷◌, length}
+use Rattle.std.specs.Prelude.{ℕ, ◌≡◌, Result, Ok, Err, List, [], ◌∷◌, length}
 use Rattle.effect.specs.Refusals.{front}
 use Rattle.goals.specs.Run.{State, started, trace_of}
 use Rattle.goals.specs.Refusals.{Against, against, against_of, Reply, exit, leaves}
 use Rattle.asking.specs.declared.Asked.{Asked}
 use Rattle.asking.specs.Asked.{start_refusal_on, run_refusal_on, trace_refusal_on, run_after_on}
 use Rattle.demands.specs.Calls.{Lent, used_in, holding}
-use Rattle.compare.specs.declared.Answered.{Answered}
-use Rattle.compare.specs.declared.Answered.TheVariants as answered-variants
+use Rattle.goals.specs.declared.SideRefusal.{SideRefusal}
 use Rattle.compare.specs.declared.Work.{Work}
 use Rattle.compare.specs.declared.Work.TheVariants as work-variants
 
 -- the number of each case of what start and run answer, with no values: the record tells them
-unfoldable pub answered : Answered → Reply
-answered answered-variants.Accepted = record { refusal = against 0 0; values = [] }
-answered (answered-variants.Refused why) = record { refusal = against_of why; values = [] }
+unfoldable pub answered : Result Unit SideRefusal → Reply
+answered (Ok u) = record { refusal = against 0 0; values = [] }
+answered (Err why) = record { refusal = against_of why; values = [] }
 
 -- Start and run on any two sides by value: the refusal of each, and the state that it leaves.
 unfoldable pub work_refusal : Work → Asked → Lent → Against

@@ -2,46 +2,30 @@
 // rows are loaded into columns, the core is called, and the rows that are then used are stored again at the front of the table.
 #![tactic(auto)]
 
-ghost use Rattle.std.specs.Prelude.{◌≡◌, min, take};
-ghost use Rattle.effect.specs.Refusals.{front};
+ghost use Rattle.std.specs.Prelude.{◌≡◌, min};
 ghost use Rattle.goals.specs.Refusals.{given, room_of};
-ghost use Rattle.columns.specs.Calls.{columns, rows_in, put, tracing};
+ghost use Rattle.columns.specs.Calls.{tracing};
+ghost use Rattle.columns.specs.Tables.{of_table, Same};
 ghost use Rattle.demands.specs.Calls.{lent, Starts, Runs, Traces};
 ghost use Rattle.compare.specs.Calls.{answered, Works, TracesAsked};
-ghost use Rattle.compare.specs.Core.{to_load, next_of, LongEnough, WorksOn};
+ghost use Rattle.compare.specs.Core.{to_load, WorksIn};
 
 use asking::{Asked, ask};
-use columns::{Called, Tracing, run_on, start_on, trace_on};
-use goals::{Row, Run, SideRefusal, lesser};
-
-// What start and run answer: accepted, or the refusal. The record tells the rest.
-#[derive(Clone, Copy)]
-pub enum Answered {
-    Accepted,
-    Refused(SideRefusal),
-}
+use columns::{Table, run_on, start_on, trace_on};
+use goals::{Row, Run, SideRefusal};
 
 // What a call is to do: begin a run, or go on with one for at most so many steps.
-#[derive(Clone, Copy)]
+#[derive(Clone, Copy, PartialEq, Eq, Debug)]
 pub enum Work {
     Start,
     Run(u64),
-}
-
-// What a call on columns leaves for the rows: the record, how many rows of the columns are to be stored, and the answer.
-#[derive(Clone, Copy)]
-struct Next {
-    run: Run,
-    rows: usize,
-    answer: Answered,
 }
 
 // How many rows are used: those that the record says are, and no more than the room has.
 fn used_within(used: u32, lent: usize) -> usize
     ensures { result ≡ min (room_of lent) used }
 {
-    let room = goals::room_of(lent);
-    lesser(room, used as usize)
+    goals::room_of(lent).min(used as usize)
 }
 
 // How many rows are loaded: none for start; else those that the record says are used, and no more than the room has.
@@ -54,128 +38,69 @@ fn to_load(work: Work, used: u32, lent: usize) -> usize
     }
 }
 
-// What a call on columns answered, for the rows. A refusal stores none.
-fn next_of(called: Called, held: Run) -> Next
-    ensures { result ≡ next_of called held }
-{
-    match called {
-        Called::Accepted(run) => Next {
-            run: run,
-            rows: run.used as usize,
-            answer: Answered::Accepted,
-        },
-        Called::Refused(why) => Next {
-            run: held,
-            rows: 0,
-            answer: Answered::Refused(why),
-        },
-    }
-}
-
 // The call on columns.
 fn call_columns(
     asked: Asked,
-    lent: usize,
-    places: &mut [u8],
-    sets: &mut [u64],
-    parents: &mut [u16],
-    letters: &mut [u16],
+    table: &mut Table<'_>,
     held: Run,
     work: Work,
-) -> Next
-    ensures { WorksOn work asked lent (columns places.old sets.old parents.old letters.old) held result (columns places.new sets.new parents.new letters.new) }
+) -> Result<Run, SideRefusal>
+    ensures works { WorksIn work asked table.old.lent (of_table table.old) held result (of_table table.new) }
+    ensures same { Same table.old table.new }
 {
     match work {
-        Work::Start => {
-            let called = start_on(asked, lent, places, sets, parents, letters);
-            next_of(called, held)
-        },
-        Work::Run(budget) => {
-            let called = run_on(asked, lent, places, sets, parents, letters, held, budget);
-            next_of(called, held)
-        },
-    }
-}
-
-// The first n rows into the columns.
-fn load(
-    rows: &[Row],
-    n: usize,
-    places: &mut [u8],
-    sets: &mut [u64],
-    parents: &mut [u16],
-    letters: &mut [u16],
-)
-    requires { LongEnough n rows.now (columns places.old sets.old parents.old letters.old) }
-    ensures { columns places.new sets.new parents.new letters.new ≡ put (take n rows.now) (columns places.old sets.old parents.old letters.old) }
-{
-    let mut i: usize = 0;
-    while i < n {
-        let r = rows[i];
-        places[i] = r.place;
-        sets[i] = r.set;
-        parents[i] = r.parent;
-        letters[i] = r.letter;
-        i += 1;
-    }
-}
-
-// The first n rows of the columns at the front of the rows.
-fn store(rows: &mut [Row], n: usize, places: &[u8], sets: &[u64], parents: &[u16], letters: &[u16])
-    requires { LongEnough n rows.old (columns places.now sets.now parents.now letters.now) }
-    ensures { rows.new ≡ front (rows_in (columns places.now sets.now parents.now letters.now) n) rows.old }
-{
-    let mut i: usize = 0;
-    while i < n {
-        rows[i] = Row {
-            set: sets[i],
-            parent: parents[i],
-            letter: letters[i],
-            place: places[i],
-        };
-        i += 1;
+        Work::Start => start_on(asked, table),
+        Work::Run(budget) => run_on(asked, table, held, budget),
     }
 }
 
 // One call on lent rows and a lent record: loads the rows that it needs, makes the call on columns, and stores the rows then used.
-pub fn call(asked: Asked, rows: &mut [Row], held: &mut Run, work: Work) -> Answered
+pub fn call(asked: Asked, rows: &mut [Row], held: &mut Run, work: Work) -> Result<(), SideRefusal>
     ensures { Works work asked (lent rows.old held.old) (answered result) (lent rows.new held.new) }
 {
     let mut places: [u8; 65535] = [0; 65535];
     let mut sets: [u64; 65535] = [0; 65535];
     let mut parents: [u16; 65535] = [0; 65535];
     let mut letters: [u16; 65535] = [0; 65535];
-    let count = rows.len();
-    let before = *held;
-    let n = to_load(work, before.used, count);
-    load(rows, n, &mut places, &mut sets, &mut parents, &mut letters);
-    let next = call_columns(
-        asked,
-        count,
-        &mut places,
-        &mut sets,
-        &mut parents,
-        &mut letters,
-        before,
-        work,
-    );
-    store(rows, next.rows, &places, &sets, &parents, &letters);
-    *held = next.run;
-    next.answer
+    let n = to_load(work, held.used, rows.len());
+    let mut table = Table {
+        lent: rows.len(),
+        places: &mut places,
+        sets: &mut sets,
+        parents: &mut parents,
+        letters: &mut letters,
+    };
+    table.take_rows(&rows[..n]);
+    let called = call_columns(asked, &mut table, *held, work);
+    let run = called?;
+    table.view().give_rows(run.used as usize, rows);
+    *held = run;
+    Ok(())
 }
 
 // Trace on lent rows and a lent record: loads the used rows, and makes the call on columns.
-pub fn trace_asked(asked: Asked, rows: &[Row], held: &Run, out: &mut [u8]) -> Tracing
+pub fn trace_asked(
+    asked: Asked,
+    rows: &[Row],
+    held: &Run,
+    out: &mut [u8],
+) -> Result<usize, SideRefusal>
     ensures { TracesAsked asked (lent rows.now held.now) out.old (tracing result) out.new }
 {
     let mut places: [u8; 65535] = [0; 65535];
     let mut sets: [u64; 65535] = [0; 65535];
     let mut parents: [u16; 65535] = [0; 65535];
     let mut letters: [u16; 65535] = [0; 65535];
-    let count = rows.len();
-    let n = used_within(held.used, count);
-    load(rows, n, &mut places, &mut sets, &mut parents, &mut letters);
-    trace_on(asked, count, &places, &sets, &parents, &letters, *held, out)
+    let n = used_within(held.used, rows.len());
+    let mut table = Table {
+        lent: rows.len(),
+        places: &mut places,
+        sets: &mut sets,
+        parents: &mut parents,
+        letters: &mut letters,
+    };
+    table.take_rows(&rows[..n]);
+    trace_on(asked, &table.view(), *held, out)
 }
 
 // Begins a run: writes row 0 and the record.
@@ -186,7 +111,7 @@ pub fn start(
     right: &[u32],
     rows: &mut [Row],
     held: &mut Run,
-) -> Answered
+) -> Result<(), SideRefusal>
     ensures { Starts (given ls left.now rs right.now) (lent rows.old held.old) (answered result) (lent rows.new held.new) }
 {
     let asked = ask(ls, left, rs, right);
@@ -202,7 +127,7 @@ pub fn run(
     rows: &mut [Row],
     held: &mut Run,
     budget: u64,
-) -> Answered
+) -> Result<(), SideRefusal>
     ensures { Runs (given ls left.now rs right.now) (lent rows.old held.old) budget (answered result) (lent rows.new held.new) }
 {
     let asked = ask(ls, left, rs, right);
@@ -218,7 +143,7 @@ pub fn trace(
     rows: &[Row],
     held: &Run,
     out: &mut [u8],
-) -> Tracing
+) -> Result<usize, SideRefusal>
     ensures { Traces (given ls left.now rs right.now) (lent rows.now held.now) out.old (tracing result) out.new }
 {
     let asked = ask(ls, left, rs, right);

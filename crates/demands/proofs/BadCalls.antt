@@ -5,16 +5,16 @@ use mathlib.Core.Path.{◌≡◌, refl, sym, ap, subst}
 use mathlib.Core.List.{List, [], ◌∷◌}
 use native.Mathlib.Omega.{arith}
 use lib.ListN.{get_or, take, drop}
+use Rattle.std.specs.Prelude.{Result, Ok, Err}
 use Rattle.bits.specs.Bit.{bit}
 use Rattle.bits.proofs.Laws.{mem-zero}
+use Rattle.effect.specs.declared.Refusal.{Refusal}
+use Rattle.effect.specs.declared.Refusal.TheVariants.{SignalsAboveEight, NoSuchNode}
 use Rattle.effect.specs.Node.{kind_of, decode_of, fields_of, number_of}
 use Rattle.effect.specs.Meaning.{of_empty, of_instant, of_none, of_more}
 use Rattle.effect.proofs.Examples.{instant-trace}
 use Rattle.effect.specs.Refusals.{front, lowest, lowest_node, some_below, some_child, claimed, names_beyond, twins, node_refusal, one_if_instant, instants, refusal_at, table_refusal, side_refusal}
-use Rattle.sheet.specs.declared.Reading.{Reading}
-use Rattle.sheet.specs.declared.Reading.TheVariants as reading-variants
-use Rattle.sheet.specs.declared.Writing.{Writing}
-use Rattle.sheet.specs.declared.Writing.TheVariants as writing-variants
+use Rattle.sheet.specs.declared.Header.{Header}
 use Rattle.sheet.specs.Bits.{digits, each, field, fields}
 use Rattle.sheet.specs.Sheet.{reading, writing, sheet_bits, sheet_of, signals_in, count_in, nodes_in, filling_set, header_refusal, read_refusal, read_of, Reads, write_refusal, write_of, Writes}
 use Rattle.sheet.specs.RoundTrip.{Bytes, SheetAgain, TableAgain}
@@ -95,14 +95,14 @@ accepts-trace h =
 pub accepts-reading : ReadRefuses accepts_reading → ⊥
 unfolding answer reading signals_in count_in nodes_in each field fields
 accepts-reading h =
-    let z : ◌≡◌ {A = ℕ} 0 1 = decided-number (of_reader [] 0) (against 0 0) (h [] [] [] (reading-variants.Accepted 0 0) (refl, refl)).0 in
+    let z : ◌≡◌ {A = ℕ} 0 1 = decided-number (of_reader [] 0) (against 0 0) (h [] [] [] (Ok (record { s = 0; nodes = 0 })) (refl, refl)).0 in
     omega arith
 
 -- an output of no byte: 13
 pub accepts-writing : WriteRefuses accepts_writing → ⊥
 unfolding answer of_nodes no_node writing kind_of decode_of some_below some_child names_beyond twins one_if_instant instants
 accepts-writing h =
-    let z : ◌≡◌ {A = ℕ} 0 13 = decided-number (of_writer 0 table 0) (against 0 0) (h 0 table [] (front (sheet_of 0 table) []) (writing-variants.Accepted 4) (refl, refl)).0 in
+    let z : ◌≡◌ {A = ℕ} 0 13 = decided-number (of_writer 0 table 0) (against 0 0) (h 0 table [] (front (sheet_of 0 table) []) (Ok 4) (refl, refl)).0 in
     omega arith
 
 -- ---- one that names both sides, and one whose number is 1: 3 of the left
@@ -146,13 +146,13 @@ trace-misnumbers h =
 pub reading-misnumbers : ReadRefuses misnumbers_reading → ⊥
 unfolding answer reading read_refusal header_refusal lowest
 reading-misnumbers h =
-    let z : ◌≡◌ {A = ℕ} 7 1 = decided-number (of_reader [] 0) _ (h [] [] [] (reading-variants.Refused (record { number = 7 })) (refl, refl)).0 in
+    let z : ◌≡◌ {A = ℕ} 7 1 = decided-number (of_reader [] 0) _ (h [] [] [] (Err NoSuchNode) (refl, refl)).0 in
     omega arith
 
 pub writing-misnumbers : WriteRefuses misnumbers_writing → ⊥
 unfolding answer of_nodes no_node writing write_refusal kind_of decode_of lowest lowest_node some_below some_child names_beyond twins node_refusal one_if_instant instants refusal_at table_refusal side_refusal
 writing-misnumbers h =
-    let z : ◌≡◌ {A = ℕ} 7 13 = decided-number (of_writer 0 table 0) _ (h 0 table [] [] (writing-variants.Refused (record { number = 7 })) (refl, refl)).0 in
+    let z : ◌≡◌ {A = ℕ} 7 13 = decided-number (of_writer 0 table 0) _ (h 0 table [] [] (Err NoSuchNode) (refl, refl)).0 in
     omega arith
 
 -- ---- one that writes though it refuses: 3 of the left, and 2 of reader and writer. Start and run write a row and a record: the rows tell
@@ -200,13 +200,13 @@ trace-writes-refused h =
 pub reading-writes-refused : ReadRefuses writes_refused_reading → ⊥
 unfolding reading read_refusal header_refusal lowest signals_in count_in nodes_in digits each field fields bit
 reading-writes-refused h =
-    let z : ◌≡◌ {A = ℕ} 65536 0 = entries 0 ((h (144 ∷ 18 ∷ 0 ∷ 0 ∷ []) (0 ∷ []) table (reading-variants.Refused (record { number = 2 })) (refl, refl)).1 (λ e. omega (arith, e))) in
+    let z : ◌≡◌ {A = ℕ} 65536 0 = entries 0 ((h (144 ∷ 18 ∷ 0 ∷ 0 ∷ []) (0 ∷ []) table (Err SignalsAboveEight) (refl, refl)).1 (λ e. omega (arith, e))) in
     omega arith
 
 pub writing-writes-refused : WriteRefuses writes_refused_writing → ⊥
 unfolding writing write_refusal side_refusal lowest sheet_of sheet_bits digits each field fields bit
 writing-writes-refused h =
-    let z : ◌≡◌ {A = ℕ} 144 0 = entries 0 ((h 9 table sheet (144 ∷ 18 ∷ 0 ∷ 0 ∷ []) (writing-variants.Refused (record { number = 2 })) (refl, refl)).1 (λ e. omega (arith, e))) in
+    let z : ◌≡◌ {A = ℕ} 144 0 = entries 0 ((h 9 table sheet (144 ∷ 18 ∷ 0 ∷ 0 ∷ []) (Err SignalsAboveEight) (refl, refl)).1 (λ e. omega (arith, e))) in
     omega arith
 
 -- ---- a reader that takes nothing and a writer that puts nothing: "Empty with s = 0", over a table of 0 and an output of 1s
@@ -216,39 +216,39 @@ ones = 1 ∷ 1 ∷ 1 ∷ 1 ∷ []
 pub takes-no-node : ReadTakes takes_nothing → ⊥
 unfolding reading read_refusal header_refusal signals_in count_in nodes_in filling_set digits each field fields bit kind_of decode_of lowest lowest_node some_below some_child names_beyond twins node_refusal one_if_instant instants refusal_at table_refusal
 takes-no-node h =
-    let z : ◌≡◌ {A = ℕ} 0 65536 = entries 0 (h sheet (0 ∷ []) (0 ∷ []) (reading-variants.Accepted 0 1) (refl, refl) refl).1 in
+    let z : ◌≡◌ {A = ℕ} 0 65536 = entries 0 (h sheet (0 ∷ []) (0 ∷ []) (Ok (record { s = 0; nodes = 1 })) (refl, refl) refl).1 in
     omega arith
 
 -- a node more answered; and of a table of two entries the second lost
 pub takes-one-more : ReadTakes takes_one_more → ⊥
 unfolding reading read_refusal header_refusal signals_in count_in nodes_in filling_set digits each field fields bit kind_of decode_of lowest lowest_node some_below some_child names_beyond twins node_refusal one_if_instant instants refusal_at table_refusal
 takes-one-more h =
-    let z : ◌≡◌ {A = ℕ} 2 1 = entries 1 (h sheet (0 ∷ []) table (reading-variants.Accepted 0 2) (refl, refl) refl).0 in
+    let z : ◌≡◌ {A = ℕ} 2 1 = entries 1 (h sheet (0 ∷ []) table (Ok (record { s = 0; nodes = 2 })) (refl, refl) refl).0 in
     omega arith
 
 pub clears-table : ReadTakes clears_table → ⊥
 unfolding reading read_refusal header_refusal signals_in count_in nodes_in filling_set digits each field fields bit kind_of decode_of lowest lowest_node some_below some_child names_beyond twins node_refusal one_if_instant instants refusal_at table_refusal
 clears-table h =
-    let z : ◌≡◌ {A = ℕ} 0 5 = entries 1 (h sheet (0 ∷ 5 ∷ []) (65536 ∷ 0 ∷ []) (reading-variants.Accepted 0 1) (refl, refl) refl).1 in
+    let z : ◌≡◌ {A = ℕ} 0 5 = entries 1 (h sheet (0 ∷ 5 ∷ []) (65536 ∷ 0 ∷ []) (Ok (record { s = 0; nodes = 1 })) (refl, refl) refl).1 in
     omega arith
 
 pub puts-no-sheet : WritePuts puts_nothing → ⊥
 unfolding writing write_refusal sheet_of sheet_bits digits field fields bit kind_of decode_of lowest lowest_node some_below some_child names_beyond twins node_refusal one_if_instant instants refusal_at table_refusal side_refusal
 puts-no-sheet h =
-    let z : ◌≡◌ {A = ℕ} 1 0 = entries 0 (h 0 table ones ones (writing-variants.Accepted 4) (refl, refl) refl).1 in
+    let z : ◌≡◌ {A = ℕ} 1 0 = entries 0 (h 0 table ones ones (Ok 4) (refl, refl) refl).1 in
     omega arith
 
 -- a byte more answered; and of an output of five bytes the fifth lost
 pub puts-one-more : WritePuts puts_one_more → ⊥
 unfolding writing write_refusal sheet_of sheet_bits digits each field fields bit kind_of decode_of lowest lowest_node some_below some_child names_beyond twins node_refusal one_if_instant instants refusal_at table_refusal side_refusal
 puts-one-more h =
-    let z : ◌≡◌ {A = ℕ} 5 4 = entries 0 (h 0 table ones sheet (writing-variants.Accepted 5) (refl, refl) refl).0 in
+    let z : ◌≡◌ {A = ℕ} 5 4 = entries 0 (h 0 table ones sheet (Ok 5) (refl, refl) refl).0 in
     omega arith
 
 pub clears-output : WritePuts clears_output → ⊥
 unfolding writing write_refusal sheet_of sheet_bits digits each field fields bit kind_of decode_of lowest lowest_node some_below some_child names_beyond twins node_refusal one_if_instant instants refusal_at table_refusal side_refusal
 clears-output h =
-    let z : ◌≡◌ {A = ℕ} 0 1 = entries 4 (h 0 table (1 ∷ ones) (0 ∷ 18 ∷ 0 ∷ 0 ∷ 0 ∷ []) (writing-variants.Accepted 4) (refl, refl) refl).1 in
+    let z : ◌≡◌ {A = ℕ} 0 1 = entries 4 (h 0 table (1 ∷ ones) (0 ∷ 18 ∷ 0 ∷ 0 ∷ 0 ∷ []) (Ok 4) (refl, refl) refl).1 in
     omega arith
 
 -- written and read again: what is left, and what is answered
@@ -262,27 +262,27 @@ sheet-bytes (suc (suc (suc (suc k)))) = omega arith
 pub sheet-not-again : SheetAgain Reads puts_nothing → ⊥
 unfolding reading read_of read_refusal header_refusal signals_in count_in nodes_in filling_set writing write_refusal digits each field fields bit kind_of decode_of lowest lowest_node some_below some_child names_beyond twins node_refusal one_if_instant instants refusal_at table_refusal side_refusal
 sheet-not-again h =
-    let z : ◌≡◌ {A = ℕ} 1 0 = entries 0 (h sheet (0 ∷ []) table ones ones 0 1 (writing-variants.Accepted 4) sheet-bytes refl (omega arith) (refl, refl)).1 in
+    let z : ◌≡◌ {A = ℕ} 1 0 = entries 0 (h sheet (0 ∷ []) table ones ones 0 1 (Ok 4) sheet-bytes refl (omega arith) (refl, refl)).1 in
     omega arith
 
 pub sheet-one-more : SheetAgain Reads puts_one_more → ⊥
 unfolding reading read_of read_refusal header_refusal signals_in count_in nodes_in filling_set writing write_refusal sheet_of sheet_bits digits each field fields bit kind_of decode_of lowest lowest_node some_below some_child names_beyond twins node_refusal one_if_instant instants refusal_at table_refusal side_refusal
 sheet-one-more h =
-    let e = (h sheet (0 ∷ []) table ones sheet 0 1 (writing-variants.Accepted 5) sheet-bytes refl (omega arith) (refl, refl)).0 in
-    let z : ◌≡◌ {A = ℕ} 5 4 = ap (λ (r : Writing). get_or (writing r).values 0 0) e in
+    let e = (h sheet (0 ∷ []) table ones sheet 0 1 (Ok 5) sheet-bytes refl (omega arith) (refl, refl)).0 in
+    let z : ◌≡◌ {A = ℕ} 5 4 = ap (λ (r : Result ℕ Refusal). get_or (writing r).values 0 0) e in
     omega arith
 
 pub table-not-again : TableAgain takes_nothing Writes → ⊥
 unfolding reading read_refusal header_refusal signals_in count_in nodes_in filling_set writing write_refusal write_of sheet_of sheet_bits digits each field fields bit kind_of decode_of lowest lowest_node some_below some_child names_beyond twins node_refusal one_if_instant instants refusal_at table_refusal side_refusal
 table-not-again h =
-    let z : ◌≡◌ {A = ℕ} 0 65536 = entries 0 (h 0 table ones sheet (0 ∷ []) (0 ∷ []) 4 (reading-variants.Accepted 0 1) refl (omega arith) (refl, refl)).1 in
+    let z : ◌≡◌ {A = ℕ} 0 65536 = entries 0 (h 0 table ones sheet (0 ∷ []) (0 ∷ []) 4 (Ok (record { s = 0; nodes = 1 })) refl (omega arith) (refl, refl)).1 in
     omega arith
 
 pub table-one-more : TableAgain takes_one_more Writes → ⊥
 unfolding reading read_refusal header_refusal signals_in count_in nodes_in filling_set writing write_refusal write_of sheet_of sheet_bits digits each field fields bit kind_of decode_of lowest lowest_node some_below some_child names_beyond twins node_refusal one_if_instant instants refusal_at table_refusal side_refusal
 table-one-more h =
-    let e = (h 0 table ones sheet (0 ∷ []) table 4 (reading-variants.Accepted 0 2) refl (omega arith) (refl, refl)).0 in
-    let z : ◌≡◌ {A = ℕ} 2 1 = ap (λ (r : Reading). get_or (reading r).values 1 0) e in
+    let e = (h 0 table ones sheet (0 ∷ []) table 4 (Ok (record { s = 0; nodes = 2 })) refl (omega arith) (refl, refl)).0 in
+    let z : ◌≡◌ {A = ℕ} 2 1 = ap (λ (r : Result Header Refusal). get_or (reading r).values 1 0) e in
     omega arith
 
 -- ---- one that says "refuted" by the left alone: C1, whose empty trace is the right's too

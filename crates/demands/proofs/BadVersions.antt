@@ -8,15 +8,15 @@ use mathlib.Core.List.{List, [], ◌∷◌}
 use native.Mathlib.Omega.{arith}
 use lib.Dec.{eqb, ltb}
 use lib.ListN.{length}
+use Rattle.std.specs.Prelude.{Err}
 use Rattle.bits.specs.Bit.{bit, Mem}
 use Rattle.bits.proofs.Laws.{mem-zero, mem-pow, set-ext}
 use Rattle.effect.specs.declared.Node.{Node}
 use Rattle.effect.specs.declared.Node.TheVariants.{Nil, Empty, Instant}
+use Rattle.effect.specs.declared.Refusal.TheVariants.{NoSuchNode, OutputTooShort}
 use Rattle.effect.specs.Node.{kind_of, decode_of, fields_of, number_of}
 use Rattle.effect.specs.Meaning.{at, Trace, of_empty, of_instant, of_seq, of_first, of_second, of_none, of_more}
 use Rattle.effect.specs.Refusals.{lowest, lowest_node, some_below, some_child, claimed, names_beyond, twins, node_refusal, one_if_instant, instants, refusal_at, table_refusal, side_refusal}
-use Rattle.sheet.specs.declared.Reading.TheVariants as reading-variants
-use Rattle.sheet.specs.declared.Writing.TheVariants as writing-variants
 use Rattle.sheet.specs.Bits.{digits, each, field, fields}
 use Rattle.sheet.specs.Sheet.{reading, writing, signals_in, count_in, nodes_in, filling_set, header_refusal, read_refusal, write_refusal}
 use Rattle.places.specs.Places.{numbered_node, numbered_to, rounds, first_of, after}
@@ -80,12 +80,12 @@ table = 65536 ∷ []
 
 pub refuses-reading : ReadRefuses refuses_reading → ⊥
 unfolding answer of_nodes no_node read_refusal header_refusal reading signals_in count_in nodes_in filling_set digits each field fields bit kind_of decode_of lowest lowest_node some_below some_child claimed names_beyond twins node_refusal one_if_instant instants refusal_at table_refusal
-refuses-reading h = no-refusal (of_reader sheet 1) 0 6 refl (h sheet table table (reading-variants.Refused (record { number = 7 })) (refl, refl)).0
+refuses-reading h = no-refusal (of_reader sheet 1) 0 6 refl (h sheet table table (Err NoSuchNode) (refl, refl)).0
 
 pub refuses-writing : WriteRefuses refuses_writing → ⊥
 unfolding answer of_nodes no_node write_refusal writing kind_of decode_of lowest lowest_node some_below some_child claimed names_beyond twins node_refusal one_if_instant instants refusal_at table_refusal side_refusal
 refuses-writing h =
-    no-refusal (of_writer 0 table 4) 0 12 refl (h 0 table sheet sheet (writing-variants.Refused (record { number = 13 })) (refl, refl)).0
+    no-refusal (of_writer 0 table 4) 0 12 refl (h 0 table sheet sheet (Err OutputTooShort) (refl, refl)).0
 
 -- of both sides
 abbrev pub refusing : ℕ → Reply

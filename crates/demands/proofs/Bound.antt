@@ -2,44 +2,45 @@
 -- By the pigeonhole over the injection of a goal into a number below 1 + m × 2^k.
 use Prim.Native.Nat.{ℕ, zero, suc, ◌+◌, ◌*◌, ◌^◌, ◌/◌, ◌%◌, ◌≤◌, ◌<◌}
 use mathlib.Core.Path.{◌≡◌, refl, sym, ap, ◌∙◌, subst}
-use mathlib.Core.Logic.{◌≢◌}
+use mathlib.Core.Bool.{true, false≢true}
+use mathlib.Core.Logic.{◌≢◌, ⊎_elim}
+use mathlib.Core.List.{List, map}
 use native.Mathlib.Nat.{pow-suc, div-lt_iff_lt-mul, zero-lt-suc}
 use native.Mathlib.Omega.{arith}
-use native.Mathlib.Decide.{ℕ_discrete}
+use lib.Dec.{eqb}
+use lib.ListN.{length, get_or}
 use lib.Arith.{digits_div, digits_mod, digits_lt}
+use borrow.Author.Tests.{eqb-true, ne_eqb}
+use Rattle.std.specs.List.{IsDistinct, list_any, range_with_len}
+use Rattle.std.proofs.lemmas.Bool.{or_cases}
+use Rattle.std.proofs.lemmas.List.FromFn.{get_or-map-range_with_len, length-map-range_with_len}
+use Rattle.std.proofs.lemmas.Map.Keys.{IsDistinct-from_apart}
+use Rattle.std.proofs.lemmas.Map.Steps.{length-le_from_distinct_below}
 
 -- ---- the pigeonhole: f takes c numbers to c different numbers below n
+all-below : (n a c : ℕ) (f : ℕ → ℕ) → ((i : ℕ) → a ≤ i → i < a + c → f i < n) → (q : ℕ) → list_any (eqb q) (map f (range_with_len a c)) ≡ true → q < n
+all-below n a zero f below q m = absurd (false≢true m)
+all-below n a (suc c) f below q m =
+    ⊎_elim (λ e. rw (eqb-true q (f a) e) (below a (omega arith) (omega arith)))
+    (λ e. all-below n (a + 1) c f (λ i h l. below i (omega arith) (omega arith)) q e)
+    (or_cases _ _ m)
+
 pigeonhole : (n c : ℕ) (f : ℕ → ℕ) → ((i : ℕ) → i < c → f i < n) → ((i j : ℕ) → i < c → j < c → f i ≡ f j → i ≡ j) → c ≤ n
-pigeonhole n zero f below once = omega arith
-pigeonhole zero (suc c) f below once = absurd (let h : f 0 < 0 = below 0 (omega arith) in omega arith)
-pigeonhole (suc n) (suc c) f below once = let h : c ≤ n = pigeonhole n c g g-below g-once in omega arith
+pigeonhole n c f below once = omega (arith, long, length-le_from_distinct_below xs n distinct (all-below n 0 c f (λ i h l. below i (omega arith))))
   where
-    -- where f is n, g has f's last value instead, so that g is below n
-    swap : (i : ℕ) → Dec (f i ≡ n) → ℕ
-    swap i (yes e) = f c
-    swap i (no e) = f i
+    xs : List ℕ
+    xs = map f (range_with_len 0 c)
 
-    g : ℕ → ℕ
-    g i = swap i (ℕ_discrete (f i) n)
+    long : length xs ≡ c
+    long = length-map-range_with_len f 0 c
 
-    swap-below : (i : ℕ) → i < c → (d : Dec (f i ≡ n)) → swap i d < n
-    swap-below i h (yes e) =
-        let l : f c < suc n = below c (omega arith) in
-        let ne : f c ≢ n = (λ z. let q : i ≡ c = once i c (omega arith) (omega arith) (e ∙ sym z) in omega arith) in
-        omega arith
-    swap-below i h (no e) = let l : f i < suc n = below i (omega arith) in omega arith
+    at : (i d : ℕ) → i < c → get_or xs i d ≡ f i
+    at i d h = get_or-map-range_with_len f 0 c i i d h (omega arith)
 
-    g-below : (i : ℕ) → i < c → g i < n
-    g-below i h = swap-below i h (ℕ_discrete (f i) n)
-
-    swap-once : (i j : ℕ) → i < c → j < c → (d : Dec (f i ≡ n)) (e : Dec (f j ≡ n)) → swap i d ≡ swap j e → i ≡ j
-    swap-once i j h k (yes p) (yes q) z = once i j (omega arith) (omega arith) (p ∙ sym q)
-    swap-once i j h k (yes p) (no q) z = absurd (let w : c ≡ j = once c j (omega arith) (omega arith) z in omega arith)
-    swap-once i j h k (no p) (yes q) z = absurd (let w : i ≡ c = once i c (omega arith) (omega arith) z in omega arith)
-    swap-once i j h k (no p) (no q) z = once i j (omega arith) (omega arith) z
-
-    g-once : (i j : ℕ) → i < c → j < c → g i ≡ g j → i ≡ j
-    g-once i j h k z = swap-once i j h k (ℕ_discrete (f i) n) (ℕ_discrete (f j) n) z
+    distinct : IsDistinct eqb xs
+    distinct =
+        IsDistinct-from_apart eqb xs
+        (λ i j d l h. ne_eqb _ _ (λ e. let z : i ≡ j = once i j (omega (arith, long)) (omega (arith, long)) (sym (at i d (omega (arith, long))) ∙ e ∙ at j d (omega (arith, long))) in omega arith))
 
 -- ---- a goal as a number
 -- the goal of a row after the first: a left place from 1 to m, and right places from 1 to k only

@@ -8,9 +8,8 @@ use mathlib.Core.List.{List, [], ◌∷◌, map}
 use lib.Dec.{eqb, ltb, leb}
 use lib.ListN.{length}
 use borrow.Author.Tests.{ne_eqb}
+use Rattle.std.specs.Prelude.{Option, Some, None}
 use Rattle.effect.specs.declared.Node.{Node}
-use Rattle.effect.specs.declared.Decoded.{Decoded}
-use Rattle.effect.specs.declared.Decoded.TheVariants.{Is, None}
 use Rattle.effect.specs.Node.{decodings, entry, node_of, nodes_of}
 use Rattle.effect.specs.Refusals.{rule, lowest, lowest_node, some_child, claimed, names_beyond, twins, node_refusal, refusal_at, table_refusal, side_refusal, Answer, front}
 use Rattle.sheet.specs.Sheet.{signals_in, nodes_in, sheet_of, header_refusal, read_refusal, write_refusal, Left, exit, left, reading, read_of, Reads, writing, write_of, Writes}
@@ -39,28 +38,28 @@ abbrev named : ℕ → ℕ → ℕ → (ℕ → Bool) → Node → List Rule
 named side s i taken n = when side 8 (names_beyond s n) ∷ when side 9 (some_child (leb i) n) ∷ when side 10 (some_child taken n || twins n) ∷ []
 
 -- 7 stands before them: where an entry is no node, they are not asked
-decoded-gives : (side s i : ℕ) (taken : ℕ → Bool) (d : Decoded) → Says (when side 7 (no_node d) ∷ named side s i taken (node_of d)) (against side (node_refusal s i taken d))
+decoded-gives : (side s i : ℕ) (taken : ℕ → Bool) (d : Option Node) → Says (when side 7 (no_node d) ∷ named side s i taken (node_of d)) (against side (node_refusal s i taken d))
 unfolding node_refusal no_node answer
 decoded-gives side s i taken None = record { before = λ rest. refl }
-decoded-gives side s i taken (Is n) = record { before = λ rest. rows.before rest }
+decoded-gives side s i taken (Some n) = record { before = λ rest. rows.before rest }
   where
     rows : Says (named side s i taken n) (against side (lowest (rule 8 (names_beyond s n) ∷ rule 9 (some_child (leb i) n) ∷ rule 10 (some_child taken n || twins n) ∷ [])))
     rows = gives_row 7 _ _ (gives_row 8 _ _ (gives_row 9 _ _ gives-end))
 
-node-gives : (side s : ℕ) (ds : List Decoded) (i : ℕ) → Says (of_node side s ds i) (against side (refusal_at s ds i))
+node-gives : (side s : ℕ) (ds : List (Option Node)) (i : ℕ) → Says (of_node side s ds i) (against side (refusal_at s ds i))
 unfolding refusal_at
 node-gives side s ds i = rw (at_entry ds i) (decoded-gives side s i (claimed (nodes_of ds) i) (entry ds i))
 
-nodes-give : (side s : ℕ) (ds : List Decoded) (n : ℕ) → Says (of_nodes side s ds n) (against side (lowest_node (refusal_at s ds) n))
+nodes-give : (side s : ℕ) (ds : List (Option Node)) (n : ℕ) → Says (of_nodes side s ds n) (against side (lowest_node (refusal_at s ds) n))
 unfolding of_nodes lowest_node
 nodes-give side s ds zero = gives_none
 nodes-give side s ds (suc n) = gives-number (nodes-give side s ds n) (node-gives side s ds n)
 
-table-gives : (side s : ℕ) (ds : List Decoded) → Says (of_table side s ds) (against side (table_refusal s ds))
+table-gives : (side s : ℕ) (ds : List (Option Node)) → Says (of_table side s ds) (against side (table_refusal s ds))
 unfolding table_refusal
 table-gives side s ds = gives-lowest _ (nodes-give side s ds (length ds)) (gives_row 10 _ _ (gives_row 11 _ _ gives-end))
 
-side-gives : (side s : ℕ) (ds : List Decoded) → Says (of_side side s ds) (against side (side_refusal s ds))
+side-gives : (side s : ℕ) (ds : List (Option Node)) → Says (of_side side s ds) (against side (side_refusal s ds))
 unfolding side_refusal
 side-gives side s ds = gives_row 1 _ _ (gives_row 2 _ _ (gives-last (table-gives side s ds)))
 

@@ -5,18 +5,18 @@ use mathlib.Core.Bool.{Bool, true, false, cond}
 use mathlib.Core.List.{List, [], ◌∷◌}
 use lib.Dec.{eqb}
 use lib.ListN.{length}
-use borrow.Author.Tests.{eq-eqb, eqb-true}
-use Rattle.effect.specs.Refusals.{Answer, front}
-use Rattle.sheet.specs.declared.Reading.{Reading}
-use Rattle.sheet.specs.declared.Reading.TheVariants as reading-variants
-use Rattle.sheet.specs.declared.Writing.{Writing}
-use Rattle.sheet.specs.declared.Writing.TheVariants as writing-variants
+use borrow.Author.Tests.{eq-eqb, eqb-true, eqb-false}
+use Rattle.std.specs.Prelude.{Result, Ok, Err}
+use Rattle.effect.specs.declared.Refusal.{Refusal}
+use Rattle.effect.specs.Refusals.{refusal_number, Answer, front}
+use Rattle.sheet.specs.declared.Header.{Header}
 use Rattle.sheet.specs.Sheet.{sheet_length, sheet_of, signals_in, count_in, nodes_in, read_refusal, write_refusal, Left, exit, left, reading, read_of, Reads, writing, write_of, Writes}
 use Rattle.sheet.proofs.RoundTrip.{sheet_again, table_again}
 use Rattle.goals.specs.Run.{started, trace_of}
 use Rattle.goals.specs.Refusals.{start_refusal, run_refusal, trace_refusal, leaves, run_after}
 use Rattle.demands.specs.Calls.{used_in, holding, ours}
 use Rattle.demands.specs.Demands.{Answers, ReadTakes, WritePuts, Meets, MeetsSheets}
+use Rattle.sheet.proofs.Numbers.{IsNumber, read-number, write-number}
 use Rattle.demands.proofs.Deciding.{read_refuses, write_refuses, start_refuses, run_refuses, trace_refuses}
 use Rattle.demands.proofs.Included.{included-only-if, goals-reached, counts-reached}
 use Rattle.demands.proofs.Refuting.{refuted-only-with, trace-hands, refuted-shown}
@@ -85,24 +85,33 @@ module _ (n : ℕ) (values result lent : List ℕ) where
       )
 
 -- ---- reader and writer
-read-answers : (sheet nodes : List ℕ) → (r : Reading) × (nodes' : List ℕ) × Reads sheet nodes r nodes'
-unfolding read_of reading
-read-answers sheet nodes = by (read_refusal sheet (length nodes)) (eqb (read_refusal sheet (length nodes)) 0) refl
-  where
-    by : (n : ℕ) (b : Bool) → eqb n 0 ≡ b
-        → (r : Reading) × (nodes' : List ℕ) × (exit (reading r) nodes' ≡ left n (signals_in sheet ∷ count_in sheet ∷ []) (nodes_in sheet) nodes)
-    by n true e =
-        (reading-variants.Accepted (signals_in sheet) (count_in sheet), front (nodes_in sheet) nodes, accepted-left n (signals_in sheet ∷ count_in sheet ∷ []) (nodes_in sheet) nodes e)
-    by n false e = (reading-variants.Refused (record { number = n }), nodes, refused-left n (signals_in sheet ∷ count_in sheet ∷ []) (nodes_in sheet) nodes e)
+-- a refusal's number is what is answered
+refused-with : (r : Refusal) {n : ℕ} → refusal_number r ≡ n → (lent : List ℕ)
+    → exit (record { number = refusal_number r; values = [] }) lent ≡ exit (record { number = n; values = [] }) lent
+refused-with r e lent = ap (λ (n : ℕ). exit (record { number = n; values = [] }) lent) e
 
-write-answers : (s : ℕ) (nodes out : List ℕ) → (r : Writing) × (out' : List ℕ) × Writes s nodes out r out'
-unfolding write_of writing
-write-answers s nodes out = by (write_refusal s nodes (length out)) (eqb (write_refusal s nodes (length out)) 0) refl
+read-answers : (sheet nodes : List ℕ) → (r : Result Header Refusal) × (nodes' : List ℕ) × Reads sheet nodes r nodes'
+unfolding read_of reading
+read-answers sheet nodes = by (read_refusal sheet (length nodes)) (read-number sheet (length nodes)) (eqb (read_refusal sheet (length nodes)) 0) refl
   where
-    by : (n : ℕ) (b : Bool) → eqb n 0 ≡ b
-        → (r : Writing) × (out' : List ℕ) × (exit (writing r) out' ≡ left n (sheet_length (length nodes) ∷ []) (sheet_of s nodes) out)
-    by n true e = (writing-variants.Accepted (sheet_length (length nodes)), front (sheet_of s nodes) out, accepted-left n (sheet_length (length nodes) ∷ []) (sheet_of s nodes) out e)
-    by n false e = (writing-variants.Refused (record { number = n }), out, refused-left n (sheet_length (length nodes) ∷ []) (sheet_of s nodes) out e)
+    by : (n : ℕ) → IsNumber n → (b : Bool) → eqb n 0 ≡ b
+        → (r : Result Header Refusal) × (nodes' : List ℕ) × (exit (reading r) nodes' ≡ left n (signals_in sheet ∷ count_in sheet ∷ []) (nodes_in sheet) nodes)
+    by n k true e =
+        (Ok (record { s = signals_in sheet; nodes = count_in sheet }), front (nodes_in sheet) nodes, accepted-left n (signals_in sheet ∷ count_in sheet ∷ []) (nodes_in sheet) nodes e)
+    by n k false e =
+        let (r, is) = k (eqb-false n 0 e) in
+        (Err r, nodes, refused-with r is nodes ∙ refused-left n (signals_in sheet ∷ count_in sheet ∷ []) (nodes_in sheet) nodes e)
+
+write-answers : (s : ℕ) (nodes out : List ℕ) → (r : Result ℕ Refusal) × (out' : List ℕ) × Writes s nodes out r out'
+unfolding write_of writing
+write-answers s nodes out = by (write_refusal s nodes (length out)) (write-number s nodes (length out)) (eqb (write_refusal s nodes (length out)) 0) refl
+  where
+    by : (n : ℕ) → IsNumber n → (b : Bool) → eqb n 0 ≡ b
+        → (r : Result ℕ Refusal) × (out' : List ℕ) × (exit (writing r) out' ≡ left n (sheet_length (length nodes) ∷ []) (sheet_of s nodes) out)
+    by n k true e = (Ok (sheet_length (length nodes)), front (sheet_of s nodes) out, accepted-left n (sheet_length (length nodes) ∷ []) (sheet_of s nodes) out e)
+    by n k false e =
+        let (r, is) = k (eqb-false n 0 e) in
+        (Err r, out, refused-with r is out ∙ refused-left n (sheet_length (length nodes) ∷ []) (sheet_of s nodes) out e)
 
 read-takes : ReadTakes Reads
 unfolding read_of

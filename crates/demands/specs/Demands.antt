@@ -1,13 +1,13 @@
 -- The inspectors' demands, sentence by sentence, of any calls: `Meets` gathers those of start, run and trace, `MeetsSheets` those of
 -- reader and writer. Demand 1's "no call does anything undefined or fails to end" is what the check proves of each function.
-use Rattle.std.specs.Prelude.{ℕ, ◌+◌, ◌-◌, ◌*◌, ◌^◌, ◌≤◌, ◌<◌, ◌≡◌, ◌⊎◌, ◌↔◌, ◌≢◌, true, false, List, [], ◌∷◌, length, get_or, take, drop}
+use Rattle.std.specs.Prelude.{ℕ, ◌+◌, ◌-◌, ◌*◌, ◌^◌, ◌≤◌, ◌<◌, ◌≡◌, ◌⊎◌, ◌↔◌, ◌≢◌, true, false, List, [], ◌∷◌, length, get_or, take, drop, Result}
 use Rattle.bits.specs.Bit.{Mem}
 use Rattle.effect.specs.declared.Node.{Node}
 use Rattle.effect.specs.Node.{decodings, nodes_of}
 use Rattle.effect.specs.Meaning.{root, Trace}
+use Rattle.effect.specs.declared.Refusal.{Refusal}
 use Rattle.effect.specs.Refusals.{instants, front}
-use Rattle.sheet.specs.declared.Reading.{Reading}
-use Rattle.sheet.specs.declared.Writing.{Writing}
+use Rattle.sheet.specs.declared.Header.{Header}
 use Rattle.sheet.specs.Sheet.{sheet_length, sheet_of, signals_in, count_in, nodes_in, reading, writing}
 use Rattle.sheet.specs.RoundTrip.{ReadCall, WriteCall, SheetAgain, TableAgain}
 use Rattle.places.specs.Readings.{matching, followers, Leads}
@@ -111,17 +111,17 @@ Answers calls =
 
 abbrev pub SheetAnswers : ReadCall → WriteCall → Type 0
 SheetAnswers Reads Writes =
-    ((sheet nodes : List ℕ) → (r : Reading) × (nodes' : List ℕ) × Reads sheet nodes r nodes')
-    × ((s : ℕ) (nodes out : List ℕ) → (r : Writing) × (out' : List ℕ) × Writes s nodes out r out')
+    ((sheet nodes : List ℕ) → (r : Result Header Refusal) × (nodes' : List ℕ) × Reads sheet nodes r nodes')
+    × ((s : ℕ) (nodes out : List ℕ) → (r : Result ℕ Refusal) × (out' : List ℕ) × Writes s nodes out r out')
 
 abbrev pub ReadRefuses : ReadCall → Type 0
 ReadRefuses Reads =
-    (sheet nodes nodes' : List ℕ) (r : Reading) → Reads sheet nodes r nodes'
+    (sheet nodes nodes' : List ℕ) (r : Result Header Refusal) → Reads sheet nodes r nodes'
     → Decides (of_reader sheet (length nodes)) (against 0 (reading r).number) × ((reading r).number ≢ 0 → nodes' ≡ nodes)
 
 abbrev pub WriteRefuses : WriteCall → Type 0
 WriteRefuses Writes =
-    (s : ℕ) (nodes out out' : List ℕ) (r : Writing) → Writes s nodes out r out'
+    (s : ℕ) (nodes out out' : List ℕ) (r : Result ℕ Refusal) → Writes s nodes out r out'
     → Decides (of_writer s nodes (length out)) (against 0 (writing r).number) × ((writing r).number ≢ 0 → out' ≡ out)
 
 abbrev pub StartRefuses : StartCall → Type 0
@@ -143,12 +143,12 @@ TraceRefuses Traces =
 -- unchanged"
 abbrev pub ReadTakes : ReadCall → Type 0
 ReadTakes Reads =
-    (sheet nodes nodes' : List ℕ) (r : Reading) → Reads sheet nodes r nodes' → (reading r).number ≡ 0
+    (sheet nodes nodes' : List ℕ) (r : Result Header Refusal) → Reads sheet nodes r nodes' → (reading r).number ≡ 0
     → ((reading r).values ≡ signals_in sheet ∷ count_in sheet ∷ []) × (nodes' ≡ front (nodes_in sheet) nodes)
 
 abbrev pub WritePuts : WriteCall → Type 0
 WritePuts Writes =
-    (s : ℕ) (nodes out out' : List ℕ) (r : Writing) → Writes s nodes out r out' → (writing r).number ≡ 0
+    (s : ℕ) (nodes out out' : List ℕ) (r : Result ℕ Refusal) → Writes s nodes out r out' → (writing r).number ≡ 0
     → ((writing r).values ≡ sheet_length (length nodes) ∷ []) × (out' ≡ front (sheet_of s nodes) out)
 
 -- ---- of every state of a chain; of every accepted run call, forged records and changed sides included

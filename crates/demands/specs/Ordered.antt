@@ -1,7 +1,6 @@
 -- Document 01's table of refusals as each call asks it, row after row in the given order.
-use Rattle.std.specs.Prelude.{ℕ, zero, suc, ◌-◌, ◌≡◌, Bool, true, false, not, ◌||◌, ◌⊎◌, List, [], ◌∷◌, ◌++◌, eqb, ltb, leb, length}
-use Rattle.effect.specs.declared.Decoded.{Decoded}
-use Rattle.effect.specs.declared.Decoded.TheVariants.{Is, None}
+use Rattle.std.specs.Prelude.{ℕ, zero, suc, ◌-◌, ◌≡◌, Bool, true, false, not, ◌||◌, ◌⊎◌, List, [], ◌∷◌, ◌++◌, eqb, ltb, leb, length, Option, Some, None}
+use Rattle.effect.specs.declared.Node.{Node}
 use Rattle.effect.specs.Node.{decodings, entry, nodes_of}
 use Rattle.effect.specs.Meaning.{at}
 use Rattle.effect.specs.Refusals.{some_below, some_child, claimed, names_beyond, twins, instants}
@@ -28,12 +27,12 @@ Decides (r ∷ rest) answer =
     ((r.applies ≡ true) × (answer ≡ against r.side r.number)) ⊎ ((r.applies ≡ false) × Decides rest answer)
 
 -- 7: "kind 6 or 7, a field that must be 0 isn't, or the node's 32-bit number is 2^19 or more", which is no node
-unfoldable pub no_node : Decoded → Bool
+unfoldable pub no_node : Option Node → Bool
 no_node None = true
-no_node (Is n) = false
+no_node (Some n) = false
 
 -- 7 to 10 of node i
-abbrev pub of_node : ℕ → ℕ → List Decoded → ℕ → List Rule
+abbrev pub of_node : ℕ → ℕ → List (Option Node) → ℕ → List Rule
 of_node side s ds i =
     let t = nodes_of ds in
     when side 7 (no_node (entry ds i))
@@ -46,12 +45,12 @@ of_node side s ds i =
     ∷ []
 
 -- "among 7 to 10 the lowest node decides first": those of node 0, of node 1, .. of node n - 1
-unfoldable pub of_nodes : ℕ → ℕ → List Decoded → ℕ → List Rule
+unfoldable pub of_nodes : ℕ → ℕ → List (Option Node) → ℕ → List Rule
 of_nodes side s ds zero = []
 of_nodes side s ds (suc n) = of_nodes side s ds n ++ of_node side s ds n
 
 -- 7 to 12 of a table
-abbrev pub of_table : ℕ → ℕ → List Decoded → List Rule
+abbrev pub of_table : ℕ → ℕ → List (Option Node) → List Rule
 of_table side s ds =
     let t = nodes_of ds in
     of_nodes side s ds (length ds)
@@ -62,7 +61,7 @@ of_table side s ds =
     ∷ [])
 
 -- "2, 3, 7 to 12" of a writer's or a comparer's side
-abbrev pub of_side : ℕ → ℕ → List Decoded → List Rule
+abbrev pub of_side : ℕ → ℕ → List (Option Node) → List Rule
 of_side side s ds =
     when side 2 (ltb 8 s)
     -- "no node (a writer or comparer: or over 255)"

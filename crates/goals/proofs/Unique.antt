@@ -4,15 +4,16 @@ use mathlib.Core.Path.{◌≡◌, sym, ◌∙◌}
 use mathlib.Core.Bool.{Bool}
 use mathlib.Core.List.{List}
 use Rattle.places.specs.declared.Side.{Side}
+use Rattle.goals.specs.declared.Goal.{Goal}
 use Rattle.goals.specs.declared.Row.{Row}
 use Rattle.goals.specs.declared.Run.{Run}
 use Rattle.goals.specs.Promises.{SameGoalIs, BadIs, FollowersAtIs, SpreadOfIs, RecordImpossibleIs, RowZeroImpossibleIs, RowImpossibleIs, LesserIs, ShortestIs, RoomOfIs}
 
-pub same-goal-one : (p x q y : ℕ) (r r' : Bool) → SameGoalIs p x q y r → SameGoalIs p x q y r' → r ≡ r'
-same-goal-one p x q y r r' e f = e ∙ sym f
+pub same-goal-one : (a b : Goal) (r r' : Bool) → SameGoalIs a b r → SameGoalIs a b r' → r ≡ r'
+same-goal-one a b r r' e f = e ∙ sym f
 
-pub is-bad-one : (left right place members : ℕ) (r r' : Bool) → BadIs left right place members r → BadIs left right place members r' → r ≡ r'
-is-bad-one left right place members r r' e f = e ∙ sym f
+pub is-bad-one : (left right : ℕ) (g : Goal) (r r' : Bool) → BadIs left right g r → BadIs left right g r' → r ≡ r'
+is-bad-one left right g r r' e f = e ∙ sym f
 
 pub followers-at-one : (follow : List ℕ) (j r r' : ℕ) → FollowersAtIs follow j r → FollowersAtIs follow j r' → r ≡ r'
 followers-at-one follow j r r' e f = e ∙ sym f

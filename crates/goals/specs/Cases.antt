@@ -1,10 +1,8 @@
 -- "Comparisons with their rows": C1 to C12 with C5r, and what it is that the run's rules give what the table lists. (What the
 -- meaning says of them is stated with the demands.)
-use Rattle.std.specs.Prelude.{ℕ, ◌≡◌, cond, List, [], ◌∷◌, map, eqb, length}
+use Rattle.std.specs.Prelude.{ℕ, ◌≡◌, cond, Option, Some, None, List, [], ◌∷◌, map, eqb, length}
 use Rattle.effect.specs.declared.Node.{Node}
 use Rattle.effect.specs.declared.Node.TheVariants.{Nil, Empty, Instant, Seq, Choice, Repeat}
-use Rattle.effect.specs.declared.Numbered.{Numbered}
-use Rattle.effect.specs.declared.Numbered.TheVariants.{Of, Wide}
 use Rattle.effect.specs.Node.{number_of}
 use Rattle.goals.specs.Run.{State, started, trace_of}
 use Rattle.goals.specs.Refusals.{Given, given, record_of, against, start_refusal, run_refusal, run_after}
@@ -71,9 +69,9 @@ comparisons =
     ∷ []
 
 -- the node table of the nodes; none of those above is too wide for its 19 bits
-abbrev pub entry_of : Numbered → ℕ
-entry_of (Of x) = x
-entry_of Wide = 524288
+abbrev pub entry_of : Option ℕ → ℕ
+entry_of (Some x) = x
+entry_of None = 524288
 
 abbrev pub table_of : List Node → List ℕ
 table_of t = map (λ n. entry_of (number_of n)) t

@@ -3,16 +3,17 @@
 use Rattle.std.specs.Prelude.{ℕ, min, ◌≡◌, Bool, List, get_or}
 use Rattle.places.specs.declared.Side.{Side}
 use Rattle.places.specs.Readings.{spread_to}
+use Rattle.goals.specs.declared.Goal.{Goal}
 use Rattle.goals.specs.declared.Row.{Row}
 use Rattle.goals.specs.declared.Run.{Run}
 use Rattle.goals.specs.Goals.{bad_goal, same_goal}
 use Rattle.goals.specs.Refusals.{room_of, record_impossible, row_zero_impossible, row_impossible}
 
-abbrev pub SameGoalIs : ℕ → ℕ → ℕ → ℕ → Bool → Type 0
-SameGoalIs place set place' set' r = r ≡ same_goal place set place' set'
+abbrev pub SameGoalIs : Goal → Goal → Bool → Type 0
+SameGoalIs a b r = r ≡ same_goal a.place a.set b.place b.set
 
-abbrev pub BadIs : ℕ → ℕ → ℕ → ℕ → Bool → Type 0
-BadIs left right place set r = r ≡ bad_goal left right place set
+abbrev pub BadIs : ℕ → ℕ → Goal → Bool → Type 0
+BadIs left right g r = r ≡ bad_goal left right g.place g.set
 
 abbrev pub FollowersAtIs : List ℕ → ℕ → ℕ → Type 0
 FollowersAtIs follow j r = r ≡ get_or follow j 0

@@ -136,7 +136,7 @@ side_number Right = 2
 side_number Both = 3
 
 abbrev pub against_of : SideRefusal → Against
-against_of why = against (side_number why.side) why.refusal.number
+against_of why = against (side_number why.side) why.number
 
 -- An answer in document 01's terms: the refusal with no values, or none with the values.
 pub record Reply : Type 0 where

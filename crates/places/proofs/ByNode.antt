@@ -9,30 +9,31 @@ use lib.ListN.{length, get_or}
 use borrow.Author.Tests.{lt-ltb}
 use Rattle.bits.specs.Bit.{has, single}
 use Rattle.effect.specs.declared.Node.{Node}
+use Rattle.effect.specs.declared.Node.TheVariants.{Instant}
 use Rattle.effect.specs.Meaning.{at}
 use Rattle.effect.specs.WellFormed.{Child}
 use Rattle.places.specs.declared.Ends.{Ends}
 use Rattle.places.specs.Places.{empty_row, first_row, last_row, has_empty, first_of, last_of, link_row, links_to}
-use Rattle.places.specs.Walk.{ends_by, ends_of, grown, link_at, linked_to}
+use Rattle.places.specs.Walk.{ends_by, Walkable, ends_of, grown, link_at, linked_to}
 use Rattle.places.proofs.Rows.{empty-is, first-is, last-is}
 use Rattle.places.proofs.ByPlace.{list_of-length, list_of-at, list-is}
 
 -- ---- the ends of a node
-module _ (u : List Node) (lower : (i c : ℕ) → Child (at u i) c → c < i) (i : ℕ) (n : Node) (e : at u i ≡ n) where
+module _ {u : List Node} (w : Walkable u) (i : ℕ) {n : Node} (e : n ≡ at u i) where
   pub ends-row : ends_by (empty_row (has_empty u) n) (first_row (has_empty u) (first_of u) n) (last_row (has_empty u) (last_of u) n) ≡ ends_of u i
   ends-row =
-      let p = empty-is u lower i ∙ ap (empty_row (has_empty u)) e in
-      let q = first-is u lower i ∙ ap (first_row (has_empty u) (first_of u)) e in
-      let r = last-is u lower i ∙ ap (last_row (has_empty u) (last_of u)) e in
+      let p = empty-is u w.lower i ∙ ap (empty_row (has_empty u)) (sym e) in
+      let q = first-is u w.lower i ∙ ap (first_row (has_empty u) (first_of u)) (sym e) in
+      let r = last-is u w.lower i ∙ ap (last_row (has_empty u) (last_of u)) (sym e) in
       λ k. ends_by (sym p k) (sym q k) (sym r k)
 
   -- a child is a lower node, and so the recursion ends
-  pub child-lower : (t c : ℕ) → i ≡ t → Child n c → c < t
-  child-lower t c q h = rw (← q) (lower i c (rw e h))
+  pub child-lower : {t c : ℕ} → i ≡ t → Child n c → c < t
+  child-lower {c = c} q h = rw (← q) (w.lower i c (rw (sym e) h))
 
--- a place below 64 is a single bit
-pub single-place : (k p : ℕ) → k < 64 → p ≡ single 64 k → p ≡ 2 ^ k
-single-place k p l e = e ∙ ap (λ (b : Bool). cond b (2 ^ k) 0) (lt-ltb k 64 l)
+-- an instant's place is below 64, a single bit
+pub single-place : {u : List Node} (w : Walkable u) (i : ℕ) {k m p : ℕ} → Instant k m ≡ at u i → p ≡ single 64 k → p ≡ 2 ^ k
+single-place w i {k} {m} e h = h ∙ ap (λ (b : Bool). cond b (2 ^ k) 0) (lt-ltb k 64 (w.small i k m (sym e)))
 
 -- ---- what a node adds
 module _ (u : List Node) (i : ℕ) (follow : List ℕ) where

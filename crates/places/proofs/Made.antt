@@ -1,9 +1,8 @@
 -- The side of an accepted table is what the survey, the ends of the root and the follow sets make of it.
 use Prim.Native.Nat.{ℕ, ◌-◌, ◌≤◌, ◌<◌}
-use mathlib.Core.Path.{◌≡◌, refl, sym, ap, subst, ◌∙◌}
+use mathlib.Core.Path.{◌≡◌, sym, ap, subst, ◌∙◌}
 use mathlib.Core.Bool.{Bool, cond}
-use mathlib.Core.Logic.{◌≢◌}
-use mathlib.Core.List.{List, [], ◌∷◌}
+use mathlib.Core.List.{List}
 use native.Mathlib.Decide.{ℕ_discrete}
 use native.Mathlib.Omega.{arith}
 use lib.Bits.{bit_or}
@@ -13,32 +12,26 @@ use lib.Seq.{ext_get_or, get_or-take, get_or-set_same, get_or-set_other, length-
 use borrow.Author.Tests.{ne_eqb, eq-eqb}
 use Rattle.effect.specs.declared.Node.{Node}
 use Rattle.effect.specs.declared.Node.TheVariants.{Nil}
-use Rattle.effect.specs.declared.Decoded.{Decoded}
-use Rattle.effect.specs.declared.Decoded.TheVariants.{Is, None}
 use Rattle.effect.specs.Node.{decode_of, decodings, node_of}
-use Rattle.effect.specs.Meaning.{at, root}
+use Rattle.effect.specs.Meaning.{root}
 use Rattle.effect.specs.declared.Refusal.{Refusal}
-use Rattle.effect.specs.declared.Checked.TheVariants.{Accepted, Refused}
-use Rattle.effect.specs.Refusals.{instants, side_refusal, Answer, checked, check_of}
+use Rattle.std.specs.Prelude.{Ok, Err}
+use Rattle.effect.specs.Refusals.{refusal_number, instants, side_refusal, Answer, checked, check_of}
 use Rattle.effect.specs.WellFormed.{WellFormed}
-use Rattle.effect.proofs.Laws.{entry-decoded}
 use Rattle.effect.proofs.Accepted.{accepted-iff}
+use Rattle.effect.proofs.Numbers.{number-positive}
 use Rattle.places.specs.declared.Side.{Side}
 use Rattle.places.specs.declared.Masks.{Masks}
 use Rattle.places.specs.declared.Ends.{Ends}
 use Rattle.places.specs.Places.{place, numbered, first_of, links_to, after, accepting}
-use Rattle.places.specs.Side.{list_of, side_of, no_side, prepare_of}
+use Rattle.places.specs.Side.{list_of, side_of, no_side, prepared, prepare_of}
 use Rattle.places.specs.Walk.{table_of, Walkable, ends_of, linked_to, Holds, Numbers, Surveyable}
 use Rattle.places.proofs.Rows.{numbered-length, numbered-at, numbered_below, numbered-instant}
 use Rattle.places.proofs.ByPlace.{list_of-length, list_of-at, list-is}
-use Rattle.places.proofs.Laws.{table_at, count-instants}
+use Rattle.places.proofs.Laws.{count-instants}
 
 table-length : (ns : List ℕ) → length (table_of ns) ≡ length ns
 table-length ns = length-map (decodings ns) node_of ∙ length-map ns decode_of
-
-is-node : (d : Decoded) → d ≢ None → d ≡ Is (node_of d)
-is-node (Is n) h = refl
-is-node None h = absurd (h refl)
 
 module _ (s : ℕ) (ns : List ℕ) (w : WellFormed s (decodings ns)) where
   abbrev t : List Node
@@ -50,7 +43,6 @@ module _ (s : ℕ) (ns : List ℕ) (w : WellFormed s (decodings ns)) where
   pub surveyable : Surveyable ns 255
   surveyable = record {
     fits = rw length-map at w.size;
-    nodes = λ i l. is-node (decode_of (get_or ns i 0)) (λ e. w.nodes i (entry-decoded ns i ∙ e)) ∙ ap Is (sym (table_at ns i));
     few = few;
   }
 
@@ -66,20 +58,14 @@ module _ (s : ℕ) (ns : List ℕ) (w : WellFormed s (decodings ns)) where
   }
 
   -- the numbered table, as the survey leaves it
-  pub skeleton-is : (sk : List ℕ) → length ns ≤ length sk → Numbers t (length ns) sk → table_of (take (length ns) sk) ≡ numbered t
-  skeleton-is sk l h = ext_get_or Nil _ _ same_length (λ i g. same-node i (rw (← from-table) at g))
+  pub skeleton-is : (sk : List Node) → length ns ≤ length sk → Numbers t (length ns) sk → take (length ns) sk ≡ numbered t
+  skeleton-is sk l h = ext_get_or Nil _ _ (size ∙ sym (numbered-length t ∙ table-length ns)) (λ i g. let q : i < length ns = rw size at g in get_or-take (length ns) sk i Nil q ∙ h i q ∙ sym (numbered-at t i))
     where
-      from-table : length ns ≡ length (table_of (take (length ns) sk))
-      from-table = sym (table-length (take (length ns) sk) ∙ length-take-le (length ns) sk l)
-
-      same_length : length (table_of (take (length ns) sk)) ≡ length (numbered t)
-      same_length = sym from-table ∙ sym (numbered-length t ∙ table-length ns)
-
-      same-node : (i : ℕ) → i < length ns → at (table_of (take (length ns) sk)) i ≡ at (numbered t) i
-      same-node i g = table_at (take (length ns) sk) i ∙ ap (λ (x : ℕ). node_of (decode_of x)) (get_or-take (length ns) sk i 0 g) ∙ ap node_of (h i g) ∙ sym (numbered-at t i)
+      size : length (take (length ns) sk) ≡ length ns
+      size = length-take-le (length ns) sk l
 
   module _ (m : Masks) (x : Ends) (follow : List ℕ) (o : ℕ) (hm : Holds t (length ns) m) (hx : x ≡ ends_of (numbered t) (length ns - 1))
-      (hf : follow ≡ linked_to (numbered t) (length ns)) (ho : o ≡ cond x.empty 1 0) where
+      (hf : follow ≡ linked_to (numbered t) (length (numbered t))) (ho : o ≡ cond x.empty 1 0) where
     all-nodes : length ns ≡ length (numbered t)
     all-nodes = sym (numbered-length t ∙ table-length ns)
 
@@ -96,8 +82,7 @@ module _ (s : ℕ) (ns : List ℕ) (w : WellFormed s (decodings ns)) where
         go : (j : ℕ) → j < 64 → Dec (j ≡ 0) → get_or (set follow 0 x.first) j 0 ≡ cond (eqb j 0) (first_of (numbered t) (root (numbered t))) (links_to (numbered t) j (length (numbered t)))
         go j l (yes e) = rw e (get_or-set_same follow 0 x.first 0 (omega (arith, size)) ∙ ap (λ (y : Ends). y.first) ends-root)
         go j l (no e) = rw (ne_eqb j 0 e)
-            (get_or-set_other follow 0 j x.first 0 e ∙ ap (λ (xs : List ℕ). get_or xs j 0) hf ∙ list_of-at 64 (λ j. links_to (numbered t) j (length ns)) j l
-            ∙ ap (links_to (numbered t) j) all-nodes)
+            (get_or-set_other follow 0 j x.first 0 e ∙ ap (λ (xs : List ℕ). get_or xs j 0) hf ∙ list_of-at 64 (λ j. links_to (numbered t) j (length (numbered t))) j l)
 
     accepts-made : bit_or x.last o ≡ accepting (numbered t)
     unfolding accepting
@@ -111,32 +96,25 @@ module _ (s : ℕ) (ns : List ℕ) (w : WellFormed s (decodings ns)) where
 
 -- ---- what `prepare` answers, from the answer of the check
 module _ (s : ℕ) (ns : List ℕ) where
-  pub accepted-none : (m : ℕ) → checked (Accepted m) ≡ check_of s ns → 0 ≡ side_refusal s (decodings ns)
+  pub accepted-none : (m : ℕ) → checked (Ok m) ≡ check_of s ns → 0 ≡ side_refusal s (decodings ns)
   unfolding checked check_of
   accepted-none m e = ap (λ (a : Answer). a.number) e
 
-  pub accepted-formed : (m : ℕ) → checked (Accepted m) ≡ check_of s ns → WellFormed s (decodings ns)
+  pub accepted-formed : (m : ℕ) → checked (Ok m) ≡ check_of s ns → WellFormed s (decodings ns)
   accepted-formed m e = (accepted-iff s (decodings ns)).0 (sym (accepted-none m e))
 
-  refused-some : (r : Refusal) → checked (Refused r) ≡ check_of s ns → r.number ≡ 0 → ⊥
-  unfolding checked check_of
-  refused-some r e z =
-      let f : side_refusal s (decodings ns) ≡ 0 = sym (ap (λ (a : Answer). a.number) e) ∙ z in
-      let g : ◌≡◌ {A = ℕ} 0 1 = ap (λ (a : Answer). length a.values) e ∙ ap (λ (b : Bool). length (cond b (instants (table_of ns) (length (decodings ns)) ∷ []) [])) (eq-eqb _ _ f) in
-      omega arith
+  pub prepare-refused : (r : Refusal) → checked (Err r) ≡ check_of s ns → prepared (Err r) ≡ prepare_of s ns
+  unfolding prepared prepare_of checked check_of
+  prepare-refused r e =
+      let f : refusal_number r ≡ side_refusal s (decodings ns) = ap (λ (a : Answer). a.number) e in
+      let g : no_side ≡ cond (eqb (side_refusal s (decodings ns)) 0) (side_of s (table_of ns)) no_side
+      = sym (ap (λ (b : Bool). cond b (side_of s (table_of ns)) no_side) (ne_eqb _ _ (λ z. omega (arith, f, z, number-positive r)))) in
+      λ i. record { number = f i; side = g i }
 
-  pub prepare-refused : (r : Refusal) (sd : Side) → checked (Refused r) ≡ check_of s ns → sd ≡ no_side → record { refusal = r; side = sd } ≡ prepare_of s ns
-  unfolding prepare_of checked check_of
-  prepare-refused r sd e h =
-      let f : r.number ≡ side_refusal s (decodings ns) = ap (λ (a : Answer). a.number) e in
-      let g : sd ≡ cond (eqb (side_refusal s (decodings ns)) 0) (side_of s (table_of ns)) no_side
-      = h ∙ sym (ap (λ (b : Bool). cond b (side_of s (table_of ns)) no_side) (ne_eqb _ _ (λ z. refused-some r e (f ∙ z)))) in
-      λ i. record { refusal = record { number = f i }; side = g i }
-
-  pub prepare-accepted : (m : ℕ) (sd : Side) → checked (Accepted m) ≡ check_of s ns → sd ≡ side_of s (table_of ns) → record { refusal = record { number = 0 }; side = sd } ≡ prepare_of s ns
-  unfolding prepare_of
+  pub prepare-accepted : (m : ℕ) (sd : Side) → checked (Ok m) ≡ check_of s ns → sd ≡ side_of s (table_of ns) → prepared (Ok sd) ≡ prepare_of s ns
+  unfolding prepared prepare_of
   prepare-accepted m sd e h =
       let f = accepted-none m e in
       let g : sd ≡ cond (eqb (side_refusal s (decodings ns)) 0) (side_of s (table_of ns)) no_side
       = h ∙ sym (ap (λ (b : Bool). cond b (side_of s (table_of ns)) no_side) (eq-eqb _ _ (sym f))) in
-      λ i. record { refusal = record { number = f i }; side = g i }
+      λ i. record { number = f i; side = g i }

@@ -1,9 +1,9 @@
 // Places: a side of a comparison, made of an accepted node table.
 #![tactic(auto)]
 
-ghost use Rattle.std.specs.Prelude.{◌≡◌, cond, ◌+◌, ◌<◌, ◌≤◌, min, length, get_or};
+ghost use Rattle.std.specs.Prelude.{ℕ, ◌≡◌, Bool, cond, ◌+◌, ◌≤◌, min, length, get_or};
 ghost use Rattle.bits.specs.Bit.{has};
-ghost use Rattle.effect.specs.Node.{decode_of, decodings};
+ghost use Rattle.effect.specs.Node.{node_of, decode_of, decodings};
 ghost use Rattle.effect.specs.Meaning.{at};
 ghost use Rattle.effect.specs.Refusals.{one_if_instant};
 ghost use Rattle.effect.specs.WellFormed.{WellFormed};
@@ -11,14 +11,15 @@ ghost use Rattle.places.specs.Places.{numbered_node};
 ghost use Rattle.places.specs.Side.{present_in, absent_in, side_of};
 ghost use Rattle.places.specs.Walk.{table_of, Walkable, ends_by, ends_of, sequence_ends, choice_ends, grown, link_at, linked_to};
 ghost use Rattle.places.specs.Walk.{Adds, Holds, Numbers, Surveyable};
-ghost use Rattle.places.specs.Matching.{naming_to, alive_to, by_signal};
+ghost use Rattle.places.specs.Matching.{masked_to, naming_to, by_signal};
 ghost use Rattle.places.specs.Promises.{NoSideIs, PrepareIs, NamingOfIs, MatchingIs};
 
-use effect::{Checked, Decoded, Node, Refusal};
+use effect::{Node, Refusal};
+use std::array;
 
 // What a comparison needs of a side, by place: s, the number of instants, their masks, the places that accept (bit j for
 // place j), and for each place those that may follow. Where a table made it, entries of no place are 0.
-#[derive(Clone, Copy)]
+#[derive(Clone, Copy, PartialEq, Eq, Debug)]
 pub struct Side {
     pub s: u8,
     pub count: u8,
@@ -28,15 +29,8 @@ pub struct Side {
     pub follow: [u64; 64],
 }
 
-// A side, or the refusal of its table with the side of nothing.
-#[derive(Clone, Copy)]
-pub struct Prepared {
-    pub refusal: Refusal,
-    pub side: Side,
-}
-
 // The places that name present no signal which no letter has; and for each signal, those that name it present and those that name it absent.
-#[derive(Clone, Copy)]
+#[derive(Clone, Copy, PartialEq, Eq, Debug)]
 pub struct Naming {
     pub alive: u64,
     pub present: [u64; 16],
@@ -59,17 +53,11 @@ struct Masks {
     absent: [u16; 64],
 }
 
-// Node i of a table; past the end, and for a number that stands for none, nil.
-fn node_at(nodes: &[u32], i: usize) -> Node
-    ensures { result ≡ at (table_of nodes.now) i }
+// The node that a number of a table stands for; nil, where it stands for none.
+fn node_of(x: u32) -> Node
+    ensures { result ≡ node_of (decode_of x) }
 {
-    if nodes.len() <= i {
-        return Node::Nil;
-    }
-    match effect::decode(nodes[i]) {
-        Decoded::Is(n) => n,
-        Decoded::None => Node::Nil,
-    }
+    effect::decode(x).unwrap_or(Node::Nil)
 }
 
 // x, if b; else the empty set.
@@ -84,7 +72,7 @@ fn no_places(empty: bool) -> Ends
     ensures { result ≡ ends_by empty 0 0 }
 {
     Ends {
-        empty: empty,
+        empty,
         first: 0,
         last: 0,
     }
@@ -112,140 +100,121 @@ fn choice_ends(x: Ends, y: Ends) -> Ends
     }
 }
 
-// Whether node i of a numbered table has the empty trace, and its first and last places. Children are lower nodes, and so
-// this ends. It may be 255 nodes deep: the follow sets, half a kilobyte, are not handed down.
-fn ends_of(nodes: &[u32], i: usize) -> Ends
-    requires { Walkable (table_of nodes.now) }
-    ensures { result ≡ ends_of (table_of nodes.now) i }
-{
-    match node_at(nodes, i) {
-        Node::Nil => no_places(false),
-        Node::Empty => no_places(true),
-        Node::Instant(j, _) => {
-            let place = bits::single(j as u64);
-            Ends {
-                empty: false,
-                first: place,
-                last: place,
-            }
-        },
-        Node::Seq(a, b) => {
-            let x = ends_of(nodes, a as usize);
-            let y = ends_of(nodes, b as usize);
-            sequence_ends(x, y)
-        },
-        Node::Choice(a, b) => {
-            let x = ends_of(nodes, a as usize);
-            let y = ends_of(nodes, b as usize);
-            choice_ends(x, y)
-        },
-        Node::Repeat(a) => {
-            let x = ends_of(nodes, a as usize);
-            Ends {
-                empty: true,
-                first: x.first,
-                last: x.last,
-            }
-        },
-    }
-}
-
 // The follow sets, and after each place of `last` the places of `first` too.
 fn joined(follow: [u64; 64], last: u64, first: u64) -> [u64; 64]
     ensures { result ≡ grown follow (λ j. cond (has last j) first 0) }
 {
-    let mut r: [u64; 64] = [0; 64];
-    let mut j: usize = 0;
-    while j < 64 {
-        r[j] = follow[j] | only_if(bits::has(last, j as u64), first);
-        j += 1;
-    }
-    r
+    array::from_fn(|j| follow[j] | only_if(bits::has(last, j as u64), first))
 }
 
-// The follow sets with what node i of a numbered table adds.
-fn linked(follow: [u64; 64], nodes: &[u32], i: usize) -> [u64; 64]
-    requires { Walkable (table_of nodes.now) }
-    ensures { result ≡ grown follow (link_at (table_of nodes.now) i) }
-{
-    match node_at(nodes, i) {
-        Node::Nil => follow,
-        Node::Empty => follow,
-        Node::Instant(_, _) => follow,
-        Node::Seq(a, b) => {
-            let x = ends_of(nodes, a as usize);
-            let y = ends_of(nodes, b as usize);
-            joined(follow, x.last, y.first)
-        },
-        Node::Choice(_, _) => follow,
-        Node::Repeat(a) => {
-            let x = ends_of(nodes, a as usize);
-            joined(follow, x.last, x.first)
-        },
-    }
+// A numbered table: an instant is its number. Children are lower nodes, and places are below 64.
+#[derive(Clone, Copy)]
+struct Skeleton<'a> {
+    nodes: &'a [Node],
+    ghost walkable: { Walkable nodes.now },
 }
 
-// For each place those that may follow it, as every node of a numbered table adds them.
-fn follow_sets(nodes: &[u32]) -> [u64; 64]
-    requires { Walkable (table_of nodes.now) }
-    ensures { result ≡ linked_to (table_of nodes.now) (length nodes.now) }
-{
-    let mut follow: [u64; 64] = [0; 64];
-    let mut i: usize = 0;
-    while i < nodes.len() {
-        let more = linked(follow, nodes, i);
-        follow = more;
-        i += 1;
+impl<'a> Skeleton<'a> {
+    // Node i; past the end, nil.
+    fn node(&self, i: usize) -> Node
+        ensures { result ≡ at self.now.nodes.now i }
+    {
+        self.nodes.get(i).copied().unwrap_or(Node::Nil)
     }
-    follow
+
+    // Whether node i has the empty trace, and its first and last places. Children are lower nodes, and so this ends. It
+    // may be 255 nodes deep: the follow sets, half a kilobyte, are not handed down.
+    fn ends_of(&self, i: usize) -> Ends
+        ensures { result ≡ ends_of self.now.nodes.now i }
+    {
+        match self.node(i) {
+            Node::Nil => no_places(false),
+            Node::Empty => no_places(true),
+            Node::Instant(j, _) => {
+                let place = bits::single(j as u64);
+                Ends {
+                    empty: false,
+                    first: place,
+                    last: place,
+                }
+            },
+            Node::Seq(a, b) => {
+                let x = self.ends_of(a as usize);
+                let y = self.ends_of(b as usize);
+                sequence_ends(x, y)
+            },
+            Node::Choice(a, b) => {
+                let x = self.ends_of(a as usize);
+                let y = self.ends_of(b as usize);
+                choice_ends(x, y)
+            },
+            Node::Repeat(a) => {
+                let x = self.ends_of(a as usize);
+                Ends { empty: true, ..x }
+            },
+        }
+    }
+
+    // The follow sets with what node i adds.
+    fn linked(&self, follow: [u64; 64], i: usize) -> [u64; 64]
+        ensures { result ≡ grown follow (link_at self.now.nodes.now i) }
+    {
+        match self.node(i) {
+            Node::Seq(a, b) => {
+                let x = self.ends_of(a as usize);
+                let y = self.ends_of(b as usize);
+                joined(follow, x.last, y.first)
+            },
+            Node::Repeat(a) => {
+                let x = self.ends_of(a as usize);
+                joined(follow, x.last, x.first)
+            },
+            _ => follow,
+        }
+    }
+
+    // For each place those that may follow it, as every node adds them.
+    fn follow_sets(&self) -> [u64; 64]
+        ensures { result ≡ linked_to self.now.nodes.now (length self.now.nodes.now) }
+    {
+        let mut follow = [0; 64];
+        for i in 0..self.nodes.len() {
+            let more = self.linked(follow, i);
+            follow = more;
+        }
+        follow
+    }
 }
 
 // The masks with those of one node more.
-fn with_masks(m: Masks, node: Node) -> Masks
+#[tactic(auto, unfolding(effect::specs::Refusals::one_if_instant, crate::specs::Side::mask_in))]
+fn with_masks(mut m: Masks, node: Node) -> Masks
     requires { m.count + one_if_instant node ≤ 63 }
     ensures count { result.count ≡ m.count + one_if_instant node }
     ensures present { Adds m.count m.present (present_in node) result.present }
     ensures absent { Adds m.count m.absent (absent_in node) result.absent }
 {
-    match node {
-        Node::Nil => m,
-        Node::Empty => m,
-        Node::Instant(p, q) => {
-            let j = m.count + 1;
-            let k = j as usize;
-            let mut present = m.present;
-            present[k] = p;
-            let mut absent = m.absent;
-            absent[k] = q;
-            Masks {
-                count: j,
-                present: present,
-                absent: absent,
-            }
-        },
-        Node::Seq(_, _) => m,
-        Node::Choice(_, _) => m,
-        Node::Repeat(_) => m,
+    if let Node::Instant(p, q) = node {
+        m.count += 1;
+        m.present[m.count as usize] = p;
+        m.absent[m.count as usize] = q;
     }
+    m
 }
 
-// The number of a node in the numbered table, x being its number in the table and j its place.
-fn numbered_number(x: u32, node: Node, j: u8) -> u32
-    requires { decode_of x ≡ Decoded.Is node }
-    ensures { decode_of result ≡ Decoded.Is (numbered_node j node) }
+// A node in the numbered table, j being its place: an instant is its number.
+#[tactic(auto, unfolding(crate::specs::Places::numbered_node))]
+fn numbered_node(j: u8, node: Node) -> Node
+    ensures { result ≡ numbered_node j node }
 {
     match node {
-        Node::Nil => x,
-        Node::Empty => x,
-        Node::Instant(_, _) => 131072 + j as u32 * 256,
-        Node::Seq(_, _) => x,
-        Node::Choice(_, _) => x,
-        Node::Repeat(_) => x,
+        Node::Instant(_, _) => Node::Instant(j as u16, 0),
+        _ => node,
     }
 }
 
 // Numbers the instants: the masks by place, and in `skeleton` the numbered table.
-fn survey(nodes: &[u32], skeleton: &mut [u32]) -> Masks
+fn survey(nodes: &[u32], skeleton: &mut [Node]) -> Masks
     requires { Surveyable nodes.now (length skeleton.old) }
     ensures masks { Holds (table_of nodes.now) (length nodes.now) result }
     ensures numbers { Numbers (table_of nodes.now) (length nodes.now) skeleton.new }
@@ -255,13 +224,10 @@ fn survey(nodes: &[u32], skeleton: &mut [u32]) -> Masks
         present: [0; 64],
         absent: [0; 64],
     };
-    let mut i: usize = 0;
-    while i < nodes.len() {
-        let node = node_at(nodes, i);
-        skeleton[i] = numbered_number(nodes[i], node, masks.count + 1);
-        let next = with_masks(masks, node);
-        masks = next;
-        i += 1;
+    for (i, x) in nodes.iter().enumerate() {
+        let node = node_of(*x);
+        skeleton[i] = numbered_node(masks.count + 1, node);
+        masks = with_masks(masks, node);
     }
     masks
 }
@@ -272,24 +238,30 @@ fn side_of(s: u8, nodes: &[u32]) -> Side
     ensures { result ≡ side_of s (table_of nodes.now) }
 {
     let n = nodes.len();
-    let mut skeleton: [u32; 255] = [0; 255];
-    let masks = survey(nodes, &mut skeleton);
-    let ends = ends_of(&skeleton[..n], n - 1);
-    let mut follow = follow_sets(&skeleton[..n]);
+    let mut skeleton = [Node::Nil; 255];
+    let Masks {
+        count,
+        present,
+        absent,
+    } = survey(nodes, &mut skeleton);
+    let numbered = Skeleton {
+        nodes: &skeleton[..n],
+    };
+    let ends = numbered.ends_of(n - 1);
+    let mut follow = numbered.follow_sets();
     follow[0] = ends.first;
-    let present = masks.present;
-    let absent = masks.absent;
     Side {
-        s: s,
-        count: masks.count,
-        present: present,
-        absent: absent,
+        s,
+        count,
+        present,
+        absent,
         accepts: ends.last | only_if(ends.empty, 1),
-        follow: follow,
+        follow,
     }
 }
 
-// The side of nothing, which goes with a refusal.
+// The side of nothing, which stands where there is a refusal.
+#[tactic(auto, unfolding(crate::specs::Side::no_side))]
 pub fn no_side() -> Side
     ensures { NoSideIs result }
 {
@@ -304,135 +276,74 @@ pub fn no_side() -> Side
 }
 
 // Makes a side of a node table, or refuses it (2, 3, 7 to 12).
-pub fn prepare(s: u8, nodes: &[u32]) -> Prepared
+pub fn prepare(s: u8, nodes: &[u32]) -> Result<Side, Refusal>
     ensures { PrepareIs s nodes.now result }
 {
-    match effect::check(s, nodes) {
-        Checked::Refused(r) => {
-            let side = no_side();
-            Prepared {
-                refusal: r,
-                side: side,
-            }
-        },
-        Checked::Accepted(_) => {
-            let side = side_of(s, nodes);
-            Prepared {
-                refusal: Refusal { number: 0 },
-                side: side,
-            }
-        },
-    }
+    effect::check(s, nodes)?;
+    Ok(side_of(s, nodes))
 }
 
-// The mask of place j; 0 past the end.
-fn mask_at(masks: [u16; 64], j: usize) -> u64
-    ensures { result ≡ get_or masks j 0 }
-{
-    if j < 64 { masks[j] as u64 } else { 0 }
-}
-
-// The places among 1 to count whose mask names the signal i.
-fn naming_at(masks: [u16; 64], i: u64, count: usize) -> u64
-    requires { count < 64 }
-    ensures { result ≡ naming_to masks i count }
+// Of the places 1 to count, of which there are 63 at most, those whose mask passes a test; where there is no mask, 0 is tested.
+#[tactic(auto, unfolding(crate::specs::Matching::masked_to))]
+fn masked<F: Fn(u64) -> bool>(masks: &[u16; 64], count: u8, test: F) -> u64
+    requires { F.IsAlwaysCallable test }
+    ensures { (passes : ℕ → Bool) → ((m : ℕ) (b : Bool) → F.post test m b → b ≡ passes m) → result ≡ masked_to passes masks.now (min count 63) }
 {
     let mut r: u64 = 0;
-    let mut k: usize = 0;
-    while k < count {
-        let j = k + 1;
-        let named = bits::has(mask_at(masks, j), i);
-        r = r | only_if(named, bits::single(j as u64));
-        k = j;
+    for j in 1..count.min(63) + 1 {
+        let mask = masks.get(j as usize).copied().unwrap_or(0);
+        r |= only_if(test(mask as u64), bits::single(j as u64));
     }
     r
 }
 
 // For each of 16 signals, the places among 1 to count whose mask names it.
-fn by_signal(masks: [u16; 64], count: usize) -> [u64; 16]
-    requires { count < 64 }
-    ensures { result ≡ by_signal masks count }
+fn by_signal(masks: &[u16; 64], count: u8) -> [u64; 16]
+    ensures { result ≡ by_signal masks.now (min count 63) }
 {
-    let mut r: [u64; 16] = [0; 16];
-    let mut i: usize = 0;
-    while i < 16 {
-        r[i] = naming_at(masks, i as u64, count);
-        i += 1;
-    }
-    r
-}
-
-// The places among 1 to count whose present mask names no signal at s or above.
-fn alive_to(present: [u16; 64], s: u8, count: usize) -> u64
-    requires { count < 64 }
-    ensures { result ≡ alive_to present s count }
-{
-    let mut r: u64 = 0;
-    let mut k: usize = 0;
-    while k < count {
-        let j = k + 1;
-        let can = bits::within(mask_at(present, j), s as u64);
-        r = r | only_if(can, bits::single(j as u64));
-        k = j;
-    }
-    r
-}
-
-// The count of places, of which there are 63 at most.
-fn at_most_63(count: u8) -> usize
-    ensures { result ≡ min count 63 }
-{
-    if count < 63 { count as usize } else { 63 }
+    array::from_fn(
+        |i|
+            ensures { result ≡ naming_to masks.entry.now i (min count 63) }
+        { masked(masks, count, |mask| bits::has(mask, i as u64)) },
+    )
 }
 
 // The places that name present no signal which no letter has; and for each signal, those that name it present and those that name it absent.
+#[tactic(auto, unfolding(crate::specs::Matching::naming_of))]
 pub fn naming_of(side: Side) -> Naming
     ensures { NamingOfIs side result }
 {
-    let count = at_most_63(side.count);
-    let present = side.present;
-    let absent = side.absent;
-    let alive = alive_to(present, side.s, count);
-    let by_present = by_signal(present, count);
-    let by_absent = by_signal(absent, count);
     Naming {
-        alive: alive,
-        present: by_present,
-        absent: by_absent,
+        alive: masked(
+            &side.present,
+            side.count,
+            |mask| bits::within(mask, side.s as u64),
+        ),
+        present: by_signal(&side.present, side.count),
+        absent: by_signal(&side.absent, side.count),
     }
-}
-
-// The set of signal i; empty past the end.
-fn set_at(sets: [u64; 16], i: usize) -> u64
-    ensures { result ≡ get_or sets i 0 }
-{
-    if i < 16 { sets[i] } else { 0 }
 }
 
 // The places that signal i takes away from those that match the letter x.
-fn taken_away(naming: Naming, x: u16, i: usize) -> u64
-    ensures { result ≡ cond (has x i) (get_or naming.absent i 0) (get_or naming.present i 0) }
+fn taken_away(naming: &Naming, x: u16, i: usize) -> u64
+    ensures { result ≡ cond (has x i) (get_or naming.now.absent i 0) (get_or naming.now.present i 0) }
 {
-    let present = naming.present;
-    let absent = naming.absent;
-    if bits::has(x as u64, i as u64) {
-        set_at(absent, i)
+    let sets = if bits::has(x as u64, i as u64) {
+        &naming.absent
     } else {
-        set_at(present, i)
-    }
+        &naming.present
+    };
+    sets.get(i).copied().unwrap_or(0)
 }
 
 // The places of a side of s signals that match the letter x.
+#[tactic(auto, unfolding(crate::specs::Matching::left_to, crate::specs::Matching::matching_by))]
 pub fn matching(naming: Naming, s: u8, x: u16) -> u64
     ensures { MatchingIs naming s x result }
 {
-    let n = s as usize;
-    let mut r = naming.alive;
-    let mut i: usize = 0;
-    while i < n {
-        let away = taken_away(naming, x, i);
-        r = r ^ (r & away);
-        i += 1;
+    let mut left = naming.alive;
+    for i in 0..s as usize {
+        left ^= left & taken_away(&naming, x, i);
     }
-    r
+    left
 }

@@ -1,17 +1,11 @@
 -- An input that is not refused: both sheets are read, and start accepts their sides.
-use Prim.Native.Nat.{ℕ}
-use mathlib.Core.Path.{◌≡◌, refl, sym, ap, ◌∙◌}
-use mathlib.Core.Bool.{Bool, true, false, cond, not}
-use mathlib.Core.Logic.{◌⊎◌}
-use mathlib.Core.List.{List, [], ◌∷◌}
-use native.Mathlib.Omega.{arith}
-use lib.Dec.{eqb}
-use borrow.Author.Tests.{eqb-true, eqb-false}
+use Rattle.std.proofs.Common.{ℕ, ◌≡◌, refl, sym, ap, ◌∙◌, Bool, true, false, cond, not, ◌⊎◌, List, [], ◌∷◌, arith, eqb, eqb-true}
+use borrow.Author.Tests.{eqb-false}
 use Rattle.effect.specs.Node.{decodings}
 use Rattle.effect.specs.Refusals.{rule, side_refusal}
 use Rattle.effect.proofs.Laws.{rule-none}
 use Rattle.sheet.specs.Sheet.{signals_in, nodes_in, read_refusal}
-use Rattle.sheet.proofs.Header.{count-lt, length-nodes}
+use Rattle.sheet.proofs.Heading.{count-lt, length-nodes}
 use Rattle.sheet.proofs.Accepted.{read_none, side-none}
 use Rattle.goals.specs.Refusals.{Against, against, first, start_refusal}
 use Rattle.program.specs.Program.{left_sheet, right_sheet, sides_in, refusal_in, ended_on}

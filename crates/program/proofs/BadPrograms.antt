@@ -1,13 +1,5 @@
 -- Each of the bad programs breaks a statement: on a worked input, where ours says the truth, or on the empty input, which is refused.
-use Prim.Native.Nat.{ℕ}
-use mathlib.Core.Path.{◌≡◌, refl, sym, ap, ◌∙◌}
-use mathlib.Core.Bool.{Bool, true, cond}
-use mathlib.Core.Logic.{⊎_elim, ◌≢◌}
-use mathlib.Core.List.{List, [], ◌∷◌, ◌++◌}
-use native.Mathlib.Omega.{arith}
-use lib.Dec.{eqb, ltb}
-use lib.ListN.{length, get_or}
-use borrow.Author.Tests.{eq-eqb}
+use Rattle.std.proofs.Common.{ℕ, ◌≡◌, refl, sym, ap, ◌∙◌, Bool, true, cond, ⊎_elim, ◌≢◌, List, [], ◌∷◌, ◌++◌, arith, eqb, ltb, length, get_or, eq-eqb}
 use Rattle.bits.specs.Bit.{bit}
 use Rattle.effect.specs.Node.{kind_of, decode_of, fields_of, number_of}
 use Rattle.effect.specs.Refusals.{lowest, one_if_instant, instants}

@@ -1,13 +1,6 @@
 -- What is printed is true: from the output's first line to the traces of the two sides in the input.
-use Prim.Native.Nat.{ℕ, ◌<◌}
-use mathlib.Core.Path.{◌≡◌, refl, sym, ap, ap₂, subst, ◌∙◌}
-use mathlib.Core.Bool.{Bool, true, false, cond}
-use mathlib.Core.Logic.{◌⊎◌, inl, inr, ◌≢◌}
-use mathlib.Core.List.{List, [], ◌++◌, append-nil}
-use native.Mathlib.Omega.{arith}
-use lib.Dec.{eqb}
-use lib.ListN.{length, get_or, drop}
-use borrow.Author.Tests.{eqb-true, eqb-false}
+use Rattle.std.proofs.Common.{ℕ, ◌<◌, ◌≡◌, refl, sym, ap, ap₂, subst, ◌∙◌, Bool, true, false, cond, ◌⊎◌, inl, inr, ◌≢◌, List, [], ◌++◌, append-nil, arith, eqb, length, get_or, drop, eqb-true}
+use borrow.Author.Tests.{eqb-false}
 use Rattle.goals.specs.Run.{State, trace_of}
 use Rattle.goals.specs.Refusals.{Against}
 use Rattle.program.specs.Lines.{ascii, outcome_line, counts_line, trace_line, refused_line, ended_lines}

@@ -1,14 +1,6 @@
 -- Lines 2 and 3 are read back: a count is what its digits say in tens, a letter what its two digits say.
-use Prim.Native.Nat.{ℕ, zero, suc, ◌+◌, ◌-◌, ◌*◌, ◌/◌, ◌%◌, ◌≤◌, ◌<◌}
-use mathlib.Core.Path.{◌≡◌, refl, sym, ap, ap₂, ◌∙◌}
-use mathlib.Core.Bool.{Bool, true, false, cond, not}
-use mathlib.Core.List.{List, [], ◌∷◌, ◌++◌, append_assoc}
-use native.Mathlib.Nat.{le_trans}
-use native.Mathlib.Omega.{arith}
-use lib.Dec.{eqb, ltb}
-use lib.Pow.{pow_mono}
-use lib.ListN.{get_or, drop}
-use borrow.Author.Tests.{eqb-true, ltb-true, ltb-false, not-false}
+use Rattle.std.proofs.Common.{ℕ, zero, suc, ◌+◌, ◌-◌, ◌*◌, ◌/◌, ◌%◌, ◌≤◌, ◌<◌, ◌≡◌, refl, sym, ap, ap₂, ◌∙◌, Bool, true, false, cond, not, List, [], ◌∷◌, ◌++◌, append_assoc, le_trans, arith, eqb, ltb, pow_mono, get_or, drop, eqb-true, ltb-true, ltb-false}
+use borrow.Author.Tests.{not-false}
 use Rattle.effect.specs.declared.Node.{Node}
 use Rattle.effect.specs.Meaning.{Trace, of_empty, of_instant, of_seq, of_first, of_second, of_none, of_more}
 use Rattle.effect.specs.Refusals.{some_below}

@@ -1,15 +1,6 @@
 -- The run of the program: start and one run call, with as many steps as there is room for rows, which end it. It is a chain of calls, so what is
 -- demanded of one holds of it.
-use Prim.Native.Nat.{ℕ, ◌+◌, ◌≤◌, ◌<◌}
-use mathlib.Core.Path.{◌≡◌, refl, sym, ap, ap₂, subst, ◌∙◌}
-use mathlib.Core.Bool.{Bool, true, false}
-use mathlib.Core.Logic.{◌⊎◌, inl, ◌↔◌, ◌≢◌}
-use mathlib.Core.List.{List, []}
-use native.Mathlib.Nat.{le_refl, le_trans}
-use native.Mathlib.Omega.{arith}
-use lib.Dec.{ltb}
-use lib.ListN.{length}
-use borrow.Author.Tests.{ltb-true, ltb-false}
+use Rattle.std.proofs.Common.{ℕ, ◌+◌, ◌≤◌, ◌<◌, ◌≡◌, refl, sym, ap, ap₂, subst, ◌∙◌, Bool, true, false, ◌⊎◌, inl, ◌↔◌, ◌≢◌, List, [], le_refl, le_trans, arith, ltb, length, ltb-true, ltb-false}
 use Rattle.goals.specs.declared.Row.{Row}
 use Rattle.goals.specs.Run.{State, started, run}
 use Rattle.goals.specs.Refusals.{Given, left_of, right_of, room_of, record_of, impossible_for, Against, against, start_refusal, run_refusal, leaves, run_after}

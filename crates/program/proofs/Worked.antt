@@ -1,8 +1,6 @@
 -- Document 01's worked input prints the worked output, and with its sheets exchanged that of C4, and an input with another letter its
 -- letter: the definitions compute it.
-use Prim.Native.Nat.{ℕ}
-use mathlib.Core.Path.{◌≡◌, refl}
-use mathlib.Core.List.{List, [], ◌∷◌}
+use Rattle.std.proofs.Common.{ℕ, ◌≡◌, refl, List, [], ◌∷◌}
 use Rattle.bits.specs.Bit.{bit}
 use Rattle.effect.specs.Node.{kind_of, decode_of, fields_of, number_of}
 use Rattle.effect.specs.Refusals.{lowest, lowest_node, some_below, some_child, claimed, names_beyond, twins, node_refusal, one_if_instant, instants, refusal_at, table_refusal, side_refusal}

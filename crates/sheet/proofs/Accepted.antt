@@ -8,16 +8,16 @@ use mathlib.Core.List.{List, [], ◌∷◌}
 use native.Mathlib.Omega.{arith}
 use lib.ListN.{length, get_or, length-map, get_or-eq_default}
 use borrow.Author.Tests.{ltb-false, le-ltb, eqb-false, eqb-true, eq-eqb, ne_eqb}
-use Rattle.effect.specs.declared.Decoded.TheVariants.{None}
+use Rattle.std.proofs.lemmas.Bool.{cases_lt}
+use Rattle.std.specs.Prelude.{None}
 use Rattle.effect.specs.Node.{decode_of, decodings}
 use Rattle.effect.specs.Refusals.{lowest, node_refusal, refusal_at, table_refusal, side_refusal}
 use Rattle.effect.proofs.Laws.{entry-decoded, lowest-none, rule-none, none-nodes, or-none, not_none}
 use Rattle.effect.proofs.Inverse.{decoded-lt}
 use Rattle.sheet.specs.Sheet.{sheet_length, signals_in, count_in, nodes_in, filling_set, header_refusal, read_refusal, write_refusal}
-use Rattle.sheet.proofs.Fields.{below_or}
 
 -- none of 1 to 6 applies
-pub record Header (sheet : List ℕ) (lent : ℕ) : Type 0 where
+pub record FineHeader (sheet : List ℕ) (lent : ℕ) : Type 0 where
   pub long : 2 ≤ length sheet
   pub signals : signals_in sheet ≤ 8
   pub some : count_in sheet ≡ 0 → ⊥
@@ -46,7 +46,7 @@ unfolding lowest
 none_rows [] h = refl
 none_rows (r ∷ rs) h = (lowest-none r rs).1 (h.0, none_rows rs h.1)
 
-pub header-none : (sheet : List ℕ) (lent : ℕ) → (header_refusal sheet lent ≡ 0) ↔ Header sheet lent
+pub header-none : (sheet : List ℕ) (lent : ℕ) → (header_refusal sheet lent ≡ 0) ↔ FineHeader sheet lent
 unfolding header_refusal
 header-none sheet lent = (
   (λ h.
@@ -108,7 +108,7 @@ side-none s ns =
           )),
     )
 
-pub read_none : (sheet : List ℕ) (lent : ℕ) → (read_refusal sheet lent ≡ 0) ↔ (Header sheet lent × (table_refusal (signals_in sheet) (decodings (nodes_in sheet)) ≡ 0))
+pub read_none : (sheet : List ℕ) (lent : ℕ) → (read_refusal sheet lent ≡ 0) ↔ (FineHeader sheet lent × (table_refusal (signals_in sheet) (decodings (nodes_in sheet)) ≡ 0))
 unfolding read_refusal
 read_none sheet lent = (
   (λ h. let z = rows_none _ h in ((header-none sheet lent).0 z.0, z.1.0)),
@@ -125,7 +125,7 @@ write-none s ns room = (
 -- each number of an accepted table stands for a node
 pub numbers-small : (s : ℕ) (ns : List ℕ) → table_refusal s (decodings ns) ≡ 0 → (k : ℕ) → get_or ns k 0 < 2 ^ 19
 unfolding table_refusal refusal_at node_refusal
-numbers-small s ns h k = ⊎_elim (λ l. decoded-lt (get_or ns k 0) (decoded l)) (λ l. rw (get_or-eq_default ns 0 l) (omega arith)) (below_or k (length ns))
+numbers-small s ns h k = ⊎_elim (λ l. decoded-lt (get_or ns k 0) (decoded l)) (λ l. rw (get_or-eq_default ns 0 l) (omega arith)) (cases_lt k (length ns))
   where
     decoded : k < length ns → decode_of (get_or ns k 0) ≡ None → ⊥
     decoded l e =

@@ -11,13 +11,14 @@ use lib.Dec.{eqb}
 use lib.ListN.{length, get_or, get_or-eq_default}
 use lib.Seq.{ext_get_or}
 use borrow.Author.Tests.{ne_eqb, eqb-false}
+use Rattle.std.proofs.lemmas.Bool.{cases_lt}
 use Rattle.bits.specs.Bit.{bit}
 use Rattle.effect.proofs.Laws.{below_none}
 use Rattle.sheet.specs.Bits.{each, field}
 use Rattle.sheet.specs.Sheet.{used_bits, sheet_length, filling_bits, sheet_bits, sheet_of, signals_in, count_in, nodes_in, filling_set}
 use Rattle.sheet.specs.RoundTrip.{Bytes}
-use Rattle.sheet.proofs.Fields.{below_or, length-each, each_at, each-bit, byte-bits, digit-of-field, field-of-digits, length_fields, getD-fields, fields-of-digits, packed, unpacked}
-use Rattle.sheet.proofs.Header.{length-nodes}
+use Rattle.sheet.proofs.Fields.{length-each, each_at, each-bit, byte-bits, digit-of-field, field-of-digits, length_fields, getD-fields, fields-of-digits, packed, unpacked}
+use Rattle.sheet.proofs.Heading.{length-nodes}
 use Rattle.sheet.proofs.SheetBits.{length-sheet_bits, signals-bit, count-bit, node-bit, sheet_bits-bits}
 
 module _ (s : ℕ) (ns : List ℕ) where
@@ -102,14 +103,14 @@ module _ (sheet : List ℕ) (size : length sheet ≡ sheet_length (count_in shee
           ⊎_elim
           (λ l. count-bit s ns i g l ∙ ap₂ bit (length-nodes sheet) (let z : 11 - i ≡ 8 - (i - 4 + 1) = omega arith in z) ∙ bit_in 4 8 (i - 4) (omega arith) ∙ ap (λ (k : ℕ). get_or (each 8 sheet) k 0) (omega arith))
           (λ m. node-bit s ns i m ∙ rest (i - 12) (omega arith) ∙ ap (λ (k : ℕ). get_or (each 8 sheet) k 0) (omega arith))
-          (below_or i 12))
-          (below_or i 4)
+          (cases_lt i 12))
+          (cases_lt i 4)
         where
           rest : (j : ℕ) → 12 + j < 8 * length sheet → get_or (each 19 ns) j 0 ≡ get_or (each 8 sheet) (12 + j) 0
           rest j l =
               ⊎_elim (node_in j)
               (λ m. get_or-eq_default (each 19 ns) 0 (omega (arith, length-each 19 ns, length-nodes sheet)) ∙ sym (filling-in j m l))
-              (below_or j (19 * count_in sheet))
+              (cases_lt j (19 * count_in sheet))
 
   pub sheet-of : Bytes sheet → sheet_of (signals_in sheet) (nodes_in sheet) ≡ sheet
   unfolding sheet_of

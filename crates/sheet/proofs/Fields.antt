@@ -3,35 +3,25 @@
 -- `each-bit` divides; a field's digits come one at a time, by bit 0 of v being v % 2 and bit j + 1 being bit j of v / 2.
 use Prim.Native.Nat.{ℕ, zero, suc, ◌+◌, ◌-◌, ◌*◌, ◌/◌, ◌%◌, ◌^◌, ◌<◌, ◌≤◌}
 use mathlib.Core.Path.{◌≡◌, refl, sym, ap, ◌∙◌}
-use mathlib.Core.Bool.{Bool, true, false, not, ◌||◌}
-use mathlib.Core.Logic.{◌⊎◌, inl, inr, ⊎_elim}
+use mathlib.Core.Bool.{not, ◌||◌}
+use mathlib.Core.Logic.{⊎_elim}
 use mathlib.Core.List.{List, [], ◌∷◌, ◌++◌}
-use native.Mathlib.Nat.{pow-suc, mul-suc, mul-zero, eq-or-lt_of_le, le_of_suc-le-suc, mod-lt, div-add-mod, div-lt_iff_lt-mul, mul_comm, lt_of_lt_of_le}
+use native.Mathlib.Nat.{pow-suc, mul-suc, mul-zero, eq-or-lt_of_le, le_of_suc-le-suc, mod-lt, div-add-mod, div-lt_iff_lt-mul, mul_comm}
 use native.Mathlib.Omega.{arith}
-use lib.Dec.{ltb, eqb}
+use lib.Dec.{eqb}
 use lib.ListN.{length, get_or, replicate, length-append, get_or-append, get_or-eq_default}
-use lib.Pow.{pow_mono}
-use lib.Seq.{get_or-append-add, get_or_at, ext_get_or}
-use borrow.Author.Tests.{ltb-true, ltb-false, ne_eqb}
+use lib.Seq.{get_or_at, ext_get_or}
+use borrow.Author.Tests.{ne_eqb}
+use Rattle.std.proofs.lemmas.Bool.{cases_lt}
+use Rattle.std.proofs.lemmas.List.{get_or-append_right}
 use Rattle.bits.specs.Bit.{bit}
 use Rattle.bits.proofs.Laws.{bit-low, bit-suc, bit-lt, bit-zero}
 use Rattle.effect.specs.Refusals.{some_below}
 use Rattle.sheet.specs.Bits.{digits, each, field, fields}
 
-pub below_or : (i n : ℕ) → (i < n) ⊎ (n ≤ i)
-below_or i n = go (ltb i n) refl
-  where
-    go : (b : Bool) → ltb i n ≡ b → (i < n) ⊎ (n ≤ i)
-    go true e = inl (ltb-true i n e)
-    go false e = inr (ltb-false i n e)
-
--- an entry of the second of two lists
-pub get_or_after : (xs ys : List ℕ) (n i : ℕ) → length xs ≡ n → n ≤ i → get_or (xs ++ ys) i 0 ≡ get_or ys (i - n) 0
-get_or_after xs ys n i e h = ap (λ (k : ℕ). get_or (xs ++ ys) k 0) (let z : i ≡ length xs + (i - n) = omega arith in z) ∙ get_or-append-add xs ys (i - n) 0
-
 -- zeros at the end add nothing, since 0 is what stands past the end
 pub getD-zeros : (xs : List ℕ) (n i : ℕ) → get_or (xs ++ replicate n 0) i 0 ≡ get_or xs i 0
-getD-zeros xs n i = ⊎_elim (λ h. get_or-append xs (replicate n 0) 0 i h) past (below_or i (length xs))
+getD-zeros xs n i = ⊎_elim (λ h. get_or-append xs (replicate n 0) 0 i h) past (cases_lt i (length xs))
   where
     zeros : (n i : ℕ) → ◌≡◌ {A = ℕ} (get_or (replicate n 0) i 0) 0
     zeros zero i = refl
@@ -39,7 +29,7 @@ getD-zeros xs n i = ⊎_elim (λ h. get_or-append xs (replicate n 0) 0 i h) past
     zeros (suc n) (suc i) = zeros n i
 
     past : length xs ≤ i → get_or (xs ++ replicate n 0) i 0 ≡ get_or xs i 0
-    past h = get_or_after xs (replicate n 0) (length xs) i refl h ∙ zeros n (i - length xs) ∙ sym (get_or-eq_default xs 0 h)
+    past h = get_or-append_right xs (replicate n 0) (length xs) i 0 refl h ∙ zeros n (i - length xs) ∙ sym (get_or-eq_default xs 0 h)
 
 -- THE BITS OF NUMBERS
 
@@ -70,7 +60,7 @@ each_at w (v ∷ vs) zero r h =
     ∙ get_or-append (digits w v) (each w vs) 0 r (omega (arith, length_digits w v))
     ∙ getD-digits w v r h
 each_at w (v ∷ vs) (suc q) r h =
-    get_or_after (digits w v) (each w vs) w (w * suc q + r) (length_digits w v) (omega (arith, mul-suc w q))
+    get_or-append_right (digits w v) (each w vs) w (w * suc q + r) 0 (length_digits w v) (omega (arith, mul-suc w q))
     ∙ ap (λ (k : ℕ). get_or (each w vs) k 0) (let z : w * suc q + r - w ≡ w * q + r = omega (arith, mul-suc w q) in z)
     ∙ each_at w vs q r h
 
@@ -101,10 +91,6 @@ module _ (bs : List ℕ) (are : AreBits bs) (o : ℕ) where
   unfolding field
   field_lt zero = omega arith
   field_lt (suc w) = omega (arith, field_lt w, are (o + w), pow-suc 2 w)
-
-  -- the first k bits of a field of w, as a loop reads them
-  pub field-under : (w k v : ℕ) → k ≤ w → v ≡ field bs o k → v < 2 ^ w
-  field-under w k v h e = rw e (lt_of_lt_of_le (field_lt k) (pow_mono {i = k} {j = w} h))
 
   -- a field's digits are the bits that it was read from
   pub digit-of-field : (w k : ℕ) → k < w → bit (field bs o w) (w - (k + 1)) ≡ get_or bs (o + k) 0
@@ -155,6 +141,15 @@ module _ (bs : List ℕ) (o w : ℕ) where
       (λ e. get_or_at (fields bs o w n) _ [] 0 k (length_fields n ∙ sym e) ∙ ap (λ (j : ℕ). field bs (o + w * j) w) (sym e))
       (λ l. get_or-append (fields bs o w n) _ 0 k (omega (arith, length_fields n)) ∙ getD-fields n k l)
       (eq-or-lt_of_le (le_of_suc-le-suc h))
+
+-- numbers that are each a field are the row of fields, which is what a loop over them does
+pub fields-of-each :
+    (bs : List ℕ) (o w : ℕ) (vs : List ℕ)
+    → ((k : ℕ) → k < length vs → get_or vs k 0 ≡ field bs (o + w * k) w)
+    → vs ≡ fields bs o w (length vs)
+fields-of-each bs o w vs is =
+    ext_get_or 0 vs (fields bs o w (length vs)) (sym (length_fields bs o w (length vs)))
+    (λ k h. is k h ∙ sym (getD-fields bs o w (length vs) k h))
 
 -- numbers whose digits are the bits are the fields
 pub fields-of-digits :

@@ -1,28 +1,10 @@
--- Fields put at the front of what was lent, one after another. And what a call leaves: that front where it accepts, all as
--- it was where it refuses.
-use Prim.Native.Nat.{ℕ, ◌+◌, ◌*◌, ◌<◌}
+-- What a call leaves: its result at the front of what was lent where it accepts, all as it was where it refuses.
+use Prim.Native.Nat.{ℕ}
 use mathlib.Core.Path.{◌≡◌, ap}
 use mathlib.Core.List.{List, []}
-use native.Mathlib.Numerals.{add-one}
-use lib.ListN.{length, set}
 use borrow.Author.Tests.{ne_eqb}
-use Rattle.sheet.specs.Bits.{field, fields}
 use Rattle.effect.specs.Refusals.{front}
 use Rattle.sheet.specs.Sheet.{Left, exit, left}
-use Rattle.effect.proofs.Front.{front-next}
-use Rattle.sheet.proofs.Fields.{length_fields}
-
--- one field more at the front, where the result is a row of fields, k of which are put: what a loop over k does
-pub front-field :
-    (bs : List ℕ) (o w : ℕ) (lent now : List ℕ) (k p x : ℕ)
-    → k < length lent
-    → now ≡ front (fields bs o w k) lent
-    → p ≡ o + w * k
-    → x ≡ field bs p w
-    → set now k x ≡ front (fields bs o w (k + 1)) lent
-unfolding fields
-front-field bs o w lent now k p x h e at is =
-    rw (add-one, e, is, at) (front-next (fields bs o w k) lent k (field bs (o + w * k) w) (length_fields bs o w k) h)
 
 -- what an accepted call leaves
 abbrev pub done : List ℕ → List ℕ → Left

@@ -1,9 +1,10 @@
 pub mod Fields
 pub mod Front
 pub mod SheetBits
-pub mod Header
+pub mod Heading
 pub mod Accepted
 pub mod Calls
+pub mod Numbers
 pub mod Again
 pub mod RoundTrip
 pub mod Unique

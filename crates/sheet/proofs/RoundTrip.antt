@@ -8,13 +8,12 @@ use lib.ListN.{length, get_or, take}
 use lib.Seq.{take_at}
 use Rattle.effect.specs.Node.{decodings}
 use Rattle.effect.specs.Refusals.{table_refusal, front}
-use Rattle.sheet.specs.declared.Reading.TheVariants as reading-variants
-use Rattle.sheet.specs.declared.Writing.TheVariants as writing-variants
+use Rattle.std.specs.Prelude.{Ok}
 use Rattle.sheet.specs.Sheet.{sheet_length, sheet_of, signals_in, count_in, nodes_in, read_refusal, Left, left, reading, read_of, writing, write_of, Reads, Writes}
 use Rattle.sheet.specs.RoundTrip.{Bytes, SheetAgain, TableAgain}
 use Rattle.sheet.proofs.Front.{done, left-done}
-use Rattle.sheet.proofs.Header.{length-nodes}
-use Rattle.sheet.proofs.Accepted.{Header, Fine, header-none, side-none, read_none, write-none, numbers-small}
+use Rattle.sheet.proofs.Heading.{length-nodes}
+use Rattle.sheet.proofs.Accepted.{FineHeader, Fine, header-none, side-none, read_none, write-none, numbers-small}
 use Rattle.sheet.proofs.Calls.{read-side}
 use Rattle.sheet.proofs.Again.{length-sheet_of, signals-again, count-again, nodes-again, filling-again, sheet-of}
 use Rattle.sheet.proofs.Unique.{read_one, write-one}
@@ -30,13 +29,13 @@ value k values values' lent lent' e = ap (λ (t : Left). get_or t.answer.values 
 
 -- an accepted sheet: what is read from it is accepted, and its sheet is the sheet
 module _ (sheet lent : List ℕ) (bytes : Bytes sheet) (none : read_refusal sheet (length lent) ≡ 0) where
-  header : Header sheet (length lent)
+  header : FineHeader sheet (length lent)
   header = ((read_none sheet (length lent)).0 none).0
 
   side : Fine (signals_in sheet) (nodes_in sheet)
   side = (side-none _ _).0 (sym (read-side sheet lent ((header-none sheet (length lent)).1 header)) ∙ none)
 
-  written : (out : List ℕ) → length sheet ≤ length out → Writes (signals_in sheet) (nodes_in sheet) out (writing-variants.Accepted (length sheet)) (front sheet out)
+  written : (out : List ℕ) → length sheet ≤ length out → Writes (signals_in sheet) (nodes_in sheet) out (Ok (length sheet)) (front sheet out)
   unfolding writing write_of
   written out h =
       let n : sheet_length (length (nodes_in sheet)) ≡ length sheet = ap sheet_length (length-nodes sheet) ∙ sym header.size in
@@ -51,7 +50,7 @@ sheet_again sheet lent lent' out out' s n r bytes rd fits wr =
     let is : s ≡ signals_in sheet = value 0 _ _ _ _ d.1 in
     let many : n ≡ count_in sheet = value 1 _ _ _ _ d.1 in
     let nodes : take n lent' ≡ nodes_in sheet = ap₂ take many (ap (λ (t : Left). t.lent) d.1) ∙ take_at (nodes_in sheet) _ (count_in sheet) (length-nodes sheet) in
-    write-one (signals_in sheet) (nodes_in sheet) out out' (front sheet out) r (writing-variants.Accepted (length sheet))
+    write-one (signals_in sheet) (nodes_in sheet) out out' (front sheet out) r (Ok (length sheet))
     (wr ∙ ap₂ (λ (x : ℕ) (l : List ℕ). write_of x l out) is nodes)
     (written sheet lent bytes d.0 out fits)
 
@@ -69,7 +68,7 @@ module _ (s : ℕ) (ns : List ℕ) (side : Fine s ns) where
   nodes : nodes_in (sheet_of s ns) ≡ ns
   nodes = nodes-again s ns few (numbers-small s ns side.table)
 
-  header-back : (lent : ℕ) → length ns ≤ lent → Header (sheet_of s ns) lent
+  header-back : (lent : ℕ) → length ns ≤ lent → FineHeader (sheet_of s ns) lent
   header-back lent h =
       record {
         long = (let z : length ns ≡ 0 → ⊥ = side.some in omega (arith, length-sheet_of s ns, z));
@@ -80,7 +79,7 @@ module _ (s : ℕ) (ns : List ℕ) (side : Fine s ns) where
         room = rw many h;
       }
 
-  read_back : (lent : List ℕ) → length ns ≤ length lent → Reads (sheet_of s ns) lent (reading-variants.Accepted s (length ns)) (front ns lent)
+  read_back : (lent : List ℕ) → length ns ≤ length lent → Reads (sheet_of s ns) lent (Ok (record { s = s; nodes = length ns })) (front ns lent)
   unfolding reading read_of
   read_back lent h =
       sym
@@ -94,6 +93,6 @@ table_again s ns out out' lent lent' k r wr fits rd =
     let a = (write-none s ns (length out)).0 d.0 in
     let long : k ≡ sheet_length (length ns) = value 0 _ _ _ _ d.1 in
     let sheet : take k out' ≡ sheet_of s ns = ap₂ take long (ap (λ (t : Left). t.lent) d.1) ∙ take_at (sheet_of s ns) _ (sheet_length (length ns)) (length-sheet_of s ns) in
-    read_one (sheet_of s ns) lent lent' (front ns lent) r (reading-variants.Accepted s (length ns))
+    read_one (sheet_of s ns) lent lent' (front ns lent) r (Ok (record { s = s; nodes = length ns }))
     (rd ∙ ap (λ (l : List ℕ). read_of l lent) sheet)
     (read_back s ns a.0 lent fits)

@@ -1,18 +1,17 @@
 -- Each promise fixes what a call leaves: two results that meet the promise of `read`, or of `write`, are equal. An
 -- answer's number and values tell every case of a result from every other, and what is lent is left as it says.
 use Prim.Native.Nat.{ℕ}
-use mathlib.Core.Path.{◌≡◌, sym, ap, ◌∙◌}
+use mathlib.Core.Path.{◌≡◌, refl, sym, ap, ◌∙◌}
 use mathlib.Core.List.{List}
 use native.Mathlib.Omega.{arith}
-use lib.ListN.{length}
+use lib.ListN.{length, get_or}
 use Rattle.effect.specs.Refusals.{Answer}
-use Rattle.sheet.specs.declared.Reading.{Reading}
-use Rattle.sheet.specs.declared.Reading.TheVariants as reading-variants
-use Rattle.sheet.specs.declared.Writing.{Writing}
-use Rattle.sheet.specs.declared.Writing.TheVariants as writing-variants
 use Rattle.effect.specs.declared.Refusal.{Refusal}
+use Rattle.effect.proofs.Numbers.{number-inj, number-positive}
+use Rattle.std.specs.Prelude.{Option, Some, None, Result, Ok, Err}
+use Rattle.sheet.specs.declared.Header.{Header}
 use Rattle.sheet.specs.Sheet.{Left, reading, writing, Reads, Writes}
-use Rattle.sheet.specs.Promises.{LengthByHeaderIs, RefusalOfIs}
+use Rattle.sheet.specs.Promises.{number_if, LengthByHeaderIs, RefusalOfIs}
 
 number_of : {a b : Answer} → a ≡ b → a.number ≡ b.number
 number_of e = ap (λ (t : Answer). t.number) e
@@ -21,19 +20,19 @@ number_of e = ap (λ (t : Answer). t.number) e
 differ : {a b : Answer} {P : Type 0} → a ≡ b → (length a.values ≡ length b.values → ⊥) → P
 differ e h = absurd (h (ap (λ (t : Answer). length t.values) e))
 
-pub reading-one : (r r' : Reading) → reading r ≡ reading r' → r ≡ r'
+pub reading-one : (r r' : Result Header Refusal) → reading r ≡ reading r' → r ≡ r'
 unfolding reading
-reading-one (reading-variants.Accepted s n) (reading-variants.Accepted s' n') e = cc (ap (λ (t : Answer). t.values) e)
-reading-one (reading-variants.Accepted s n) (reading-variants.Refused r) e = differ e (λ h. omega arith)
-reading-one (reading-variants.Refused r) (reading-variants.Accepted s n) e = differ e (λ h. omega arith)
-reading-one (reading-variants.Refused r) (reading-variants.Refused r') e = λ i. reading-variants.Refused (record { number = number_of e i })
+reading-one (Ok h) (Ok h') e = λ i. Ok (record { s = get_or (e i).values 0 0; nodes = get_or (e i).values 1 0 })
+reading-one (Ok h) (Err r) e = differ e (λ h. omega arith)
+reading-one (Err r) (Ok h) e = differ e (λ h. omega arith)
+reading-one (Err r) (Err r') e = ap Err (number-inj r r' (number_of e))
 
-pub writing-one : (r r' : Writing) → writing r ≡ writing r' → r ≡ r'
+pub writing-one : (r r' : Result ℕ Refusal) → writing r ≡ writing r' → r ≡ r'
 unfolding writing
-writing-one (writing-variants.Accepted n) (writing-variants.Accepted n') e = cc (ap (λ (t : Answer). t.values) e)
-writing-one (writing-variants.Accepted n) (writing-variants.Refused r) e = differ e (λ h. omega arith)
-writing-one (writing-variants.Refused r) (writing-variants.Accepted n) e = differ e (λ h. omega arith)
-writing-one (writing-variants.Refused r) (writing-variants.Refused r') e = λ i. writing-variants.Refused (record { number = number_of e i })
+writing-one (Ok n) (Ok n') e = cc (ap (λ (t : Answer). t.values) e)
+writing-one (Ok n) (Err r) e = differ e (λ h. omega arith)
+writing-one (Err r) (Ok n) e = differ e (λ h. omega arith)
+writing-one (Err r) (Err r') e = ap Err (number-inj r r' (number_of e))
 
 answer-of : {a b : Left} → a ≡ b → a.answer ≡ b.answer
 answer-of e = ap (λ (t : Left). t.answer) e
@@ -41,14 +40,21 @@ answer-of e = ap (λ (t : Left). t.answer) e
 lent_of : {a b : Left} → a ≡ b → a.lent ≡ b.lent
 lent_of e = ap (λ (t : Left). t.lent) e
 
-pub read_one : (sheet lent l l' : List ℕ) (r r' : Reading) → Reads sheet lent r l → Reads sheet lent r' l' → (r ≡ r') × (l ≡ l')
+pub read_one : (sheet lent l l' : List ℕ) (r r' : Result Header Refusal) → Reads sheet lent r l → Reads sheet lent r' l' → (r ≡ r') × (l ≡ l')
 read_one sheet lent l l' r r' p q = let e = p ∙ sym q in (reading-one r r' (answer-of e), lent_of e)
 
-pub write-one : (s : ℕ) (ns out o o' : List ℕ) (r r' : Writing) → Writes s ns out r o → Writes s ns out r' o' → (r ≡ r') × (o ≡ o')
+pub write-one : (s : ℕ) (ns out o o' : List ℕ) (r r' : Result ℕ Refusal) → Writes s ns out r o → Writes s ns out r' o' → (r ≡ r') × (o ≡ o')
 write-one s ns out o o' r r' p q = let e = p ∙ sym q in (writing-one r r' (answer-of e), lent_of e)
 
 pub length-by-header-one : (sheet : List ℕ) (r r' : ℕ) → LengthByHeaderIs sheet r → LengthByHeaderIs sheet r' → r ≡ r'
 length-by-header-one sheet r r' e f = e ∙ sym f
 
-pub refusal-of-one : (answer : Reading) (r r' : Refusal) → RefusalOfIs answer r → RefusalOfIs answer r' → r ≡ r'
-refusal-of-one answer r r' e f = λ i. record { number = (e ∙ sym f) i }
+-- the number tells every refusal from every other, and from none
+number-if-one : (r r' : Option Refusal) → number_if r ≡ number_if r' → r ≡ r'
+number-if-one None None e = refl
+number-if-one None (Some r) e = absurd (omega (arith, number-positive r))
+number-if-one (Some r) None e = absurd (omega (arith, number-positive r))
+number-if-one (Some r) (Some r') e = ap Some (number-inj r r' e)
+
+pub refusal-of-one : (answer : Result Header Refusal) (r r' : Option Refusal) → RefusalOfIs answer r → RefusalOfIs answer r' → r ≡ r'
+refusal-of-one answer r r' e f = number-if-one r r' (e ∙ sym f)

@@ -1,11 +1,9 @@
 -- The effect sheet, its reader and its writer, with refusals 1 to 13.
-use Rattle.std.specs.Prelude.{ℕ, ◌+◌, ◌-◌, ◌*◌, ◌/◌, ◌≡◌, Bool, cond, not, List, [], ◌∷◌, ◌++◌, ltb, eqb, length, get_or, replicate}
+use Rattle.std.specs.Prelude.{ℕ, ◌+◌, ◌-◌, ◌*◌, ◌/◌, ◌≡◌, Bool, cond, not, List, [], ◌∷◌, ◌++◌, ltb, eqb, length, get_or, replicate, Result, Ok, Err}
 use Rattle.effect.specs.Node.{decodings}
-use Rattle.effect.specs.Refusals.{rule, lowest, some_below, table_refusal, side_refusal, Answer, answered, front}
-use Rattle.sheet.specs.declared.Reading.{Reading}
-use Rattle.sheet.specs.declared.Reading.TheVariants as reading-variants
-use Rattle.sheet.specs.declared.Writing.{Writing}
-use Rattle.sheet.specs.declared.Writing.TheVariants as writing-variants
+use Rattle.effect.specs.Refusals.{refusal_number, rule, lowest, some_below, table_refusal, side_refusal, Answer, answered, front}
+use Rattle.effect.specs.declared.Refusal.{Refusal}
+use Rattle.sheet.specs.declared.Header.{Header}
 use Rattle.sheet.specs.Bits.{digits, each, field, fields}
 
 -- "s in 4 bits, node count N in 8, then N nodes of 19 bits": how many bits N nodes take
@@ -89,25 +87,25 @@ abbrev pub left : ℕ → List ℕ → List ℕ → List ℕ → Left
 left refusal values result lent = exit (answered refusal values) (cond (eqb refusal 0) (front result lent) lent)
 
 -- the number and values of each case of what `read` answers: s and N, or a refusal
-unfoldable pub reading : Reading → Answer
-reading (reading-variants.Accepted s n) = record { number = 0; values = s ∷ n ∷ [] }
-reading (reading-variants.Refused r) = record { number = r.number; values = [] }
+unfoldable pub reading : Result Header Refusal → Answer
+reading (Ok h) = record { number = 0; values = h.s ∷ h.nodes ∷ [] }
+reading (Err r) = record { number = refusal_number r; values = [] }
 
 unfoldable pub read_of : List ℕ → List ℕ → Left
 read_of sheet lent = left (read_refusal sheet (length lent)) (signals_in sheet ∷ count_in sheet ∷ []) (nodes_in sheet) lent
 
 -- the promise of `read`: what it answers and what it leaves in the table lent
-abbrev pub Reads : List ℕ → List ℕ → Reading → List ℕ → Type 0
+abbrev pub Reads : List ℕ → List ℕ → Result Header Refusal → List ℕ → Type 0
 Reads sheet lent r lent' = exit (reading r) lent' ≡ read_of sheet lent
 
 -- the number and values of each case of what `write` answers: the sheet's length, or a refusal
-unfoldable pub writing : Writing → Answer
-writing (writing-variants.Accepted n) = record { number = 0; values = n ∷ [] }
-writing (writing-variants.Refused r) = record { number = r.number; values = [] }
+unfoldable pub writing : Result ℕ Refusal → Answer
+writing (Ok n) = record { number = 0; values = n ∷ [] }
+writing (Err r) = record { number = refusal_number r; values = [] }
 
 unfoldable pub write_of : ℕ → List ℕ → List ℕ → Left
 write_of s ns out = left (write_refusal s ns (length out)) (sheet_length (length ns) ∷ []) (sheet_of s ns) out
 
 -- the promise of `write`: what it answers and what it leaves in the output lent
-abbrev pub Writes : ℕ → List ℕ → List ℕ → Writing → List ℕ → Type 0
+abbrev pub Writes : ℕ → List ℕ → List ℕ → Result ℕ Refusal → List ℕ → Type 0
 Writes s ns out r out' = exit (writing r) out' ≡ write_of s ns out

@@ -1,52 +1,49 @@
 // The packed effect sheet: its reader and its writer.
 #![tactic(auto)]
 
-ghost use Rattle.std.specs.Prelude.{◌≡◌, [], ◌∷◌, ◌*◌, ◌<◌, ◌≤◌, ltb, length, get_or};
-ghost use Rattle.effect.specs.Refusals.{rule, front};
+ghost use Rattle.std.specs.Prelude.{ℕ, ◌≡◌, List, [], ◌∷◌, ◌*◌, ◌<◌, ◌≤◌, ltb, length, get_or, take};
+ghost use Rattle.effect.specs.Refusals.{rule, answered};
 ghost use Rattle.sheet.specs.Bits.{each, field, fields};
-ghost use Rattle.sheet.specs.Sheet.{sheet_length, sheet_bits, header_refusal, exit, left, sheet_of, reading, writing, Reads, Writes};
+ghost use Rattle.sheet.specs.Sheet.{sheet_length, sheet_bits, signals_in, count_in, header_refusal, exit, left, sheet_of, reading, writing, Reads, Writes};
 ghost use Rattle.sheet.specs.Promises.{LengthByHeaderIs, RefusalOfIs};
 
-use effect::{Checked, Refusal};
+use effect::Refusal;
 
-// What reading a sheet answers: s and the number of nodes, or the refusal.
-#[derive(Clone, Copy)]
-pub enum Reading {
-    Accepted(u8, usize),
-    Refused(Refusal),
+// What stands in a sheet's header: s and the number of nodes.
+#[derive(Clone, Copy, PartialEq, Eq, Debug)]
+pub struct Header {
+    pub s: u8,
+    pub nodes: usize,
 }
 
-// What writing a sheet answers: its length in bytes, or the refusal.
-#[derive(Clone, Copy)]
-pub enum Writing {
-    Accepted(usize),
-    Refused(Refusal),
+// The number that the w bits from bit o on write, the most significant first. `bit` gives bit i.
+fn number_of<F: Fn(usize) -> u32>(bit: F, o: usize, w: usize) -> u32
+    requires bounds { (w ≤ 19) × (o < 65536) }
+    requires can { F.IsAlwaysCallable bit }
+    requires bits { (i b : ℕ) → F.post bit i b → b < 2 }
+    ensures { (bs : List ℕ) → ((i b : ℕ) → F.post bit i b → b ≡ get_or bs i 0) → result ≡ field bs o w }
+{
+    let mut v = 0;
+    for k in 0..w {
+        v = v * 2 + bit(o + k);
+    }
+    v
 }
 
 // Bit i of the sheet, the most significant bit of a byte first; 0 past the end.
 fn bit_at(sheet: &[u8], i: usize) -> u32
     ensures { result ≡ get_or (each 8 sheet.now) i 0 }
 {
-    let k = i / 8;
-    if k < sheet.len() {
-        (sheet[k] as u32 >> (7 - i % 8)) % 2
-    } else {
-        0
-    }
+    let byte = sheet.get(i / 8).copied().unwrap_or(0);
+    (byte as u32 >> (7 - i % 8)) % 2
 }
 
-// The number that the w bits from bit o on write.
+// The number that the w bits from bit o on of the sheet write.
 fn field_at(sheet: &[u8], o: usize, w: usize) -> u32
     requires { (w ≤ 19) × (o < 65536) }
     ensures { result ≡ field (each 8 sheet.now) o w }
 {
-    let mut v: u32 = 0;
-    let mut k: usize = 0;
-    while k < w {
-        v = v * 2 + bit_at(sheet, o + k);
-        k += 1;
-    }
-    v
+    number_of(|i| bit_at(sheet, i), o, w)
 }
 
 // The length in bytes of the sheet of n nodes.
@@ -54,7 +51,7 @@ fn length_of(n: usize) -> usize
     requires { n ≤ 255 }
     ensures { result ≡ sheet_length n }
 {
-    (12 + 19 * n + 7) / 8
+    (12 + 19 * n).div_ceil(8)
 }
 
 // The length in bytes that a sheet's header gives, however long what follows is. Bits past the end count as zeros.
@@ -64,134 +61,118 @@ pub fn length_by_header(sheet: &[u8]) -> usize
     length_of(field_at(sheet, 4, 8) as usize)
 }
 
-// Refusals 1 to 6, or 0.
-fn header_refusal(sheet: &[u8], lent: usize) -> u8
-    ensures { result ≡ header_refusal sheet.now lent }
+// The header, or one of refusals 1 to 6.
+fn read_header(sheet: &[u8], lent: usize) -> Result<Header, Refusal>
+    ensures { reading result ≡ answered (header_refusal sheet.now lent) (signals_in sheet.now ∷ count_in sheet.now ∷ []) }
 {
     if sheet.len() < 2 {
-        return 1;
+        return Err(Refusal::SheetTooShort);
     }
-    if 8 < field_at(sheet, 0, 4) {
-        return 2;
+    let s = field_at(sheet, 0, 4) as u8;
+    if 8 < s {
+        return Err(Refusal::SignalsAboveEight);
     }
     let n = field_at(sheet, 4, 8) as usize;
     if n == 0 {
-        return 3;
+        return Err(Refusal::NodeCount);
     }
     let length = length_of(n);
     if sheet.len() != length {
-        return 4;
+        return Err(Refusal::SheetLength);
     }
     let used = 12 + 19 * n;
     if field_at(sheet, used, 8 * length - used) != 0 {
-        return 5;
+        return Err(Refusal::FillingBit);
     }
     if lent < n {
-        return 6;
+        return Err(Refusal::TableTooShort);
     }
-    0
+    Ok(Header { s, nodes: n })
 }
 
-// Puts the first n nodes of the sheet at the front of the table.
-fn take_nodes(sheet: &[u8], n: usize, nodes: &mut [u32])
-    requires { (n ≤ 255) × (n ≤ length nodes.old) }
-    ensures { nodes.new ≡ front (fields (each 8 sheet.now) 12 19 n) nodes.old }
+// The first n nodes of the sheet, at the front of a table.
+fn take_nodes(sheet: &[u8], n: usize) -> [u32; 255]
+    requires { n ≤ 255 }
+    ensures { take n result ≡ fields (each 8 sheet.now) 12 19 n }
 {
-    let mut k: usize = 0;
-    while k < n {
-        nodes[k] = field_at(sheet, 12 + 19 * k, 19);
-        k += 1;
+    let mut nodes = [0; 255];
+    for (k, node) in nodes[..n].iter_mut().enumerate() {
+        *node = field_at(sheet, 12 + 19 * k, 19);
     }
+    nodes
 }
 
 // Reads a sheet into the table lent. The nodes are judged aside first, so that a refusal changes nothing.
-pub fn read(sheet: &[u8], nodes: &mut [u32]) -> Reading
+pub fn read(sheet: &[u8], nodes: &mut [u32]) -> Result<Header, Refusal>
     ensures { Reads sheet.now nodes.old result nodes.new }
 {
-    let number = header_refusal(sheet, nodes.len());
-    if number != 0 {
-        return Reading::Refused(Refusal { number: number });
-    }
-    let s = (field_at(sheet, 0, 4) % 256) as u8;
-    let n = field_at(sheet, 4, 8) as usize;
-    let mut aside: [u32; 255] = [0; 255];
-    take_nodes(sheet, n, &mut aside);
-    match effect::check(s, &aside[..n]) {
-        Checked::Refused(r) => Reading::Refused(r),
-        Checked::Accepted(_) => {
-            take_nodes(sheet, n, nodes);
-            Reading::Accepted(s, n)
-        }
-    }
+    let header = read_header(sheet, nodes.len())?;
+    let taken = take_nodes(sheet, header.nodes);
+    let aside = &taken[..header.nodes];
+    effect::check(header.s, aside)?;
+    nodes[..header.nodes].copy_from_slice(aside);
+    Ok(header)
 }
 
-// The refusal of a reading; number 0 where it was accepted.
-pub fn refusal_of(answer: Reading) -> Refusal
+// The refusal of a reading, if it was refused.
+pub fn refusal_of(answer: Result<Header, Refusal>) -> Option<Refusal>
     ensures { RefusalOfIs answer result }
 {
-    match answer {
-        Reading::Accepted(_, _) => Refusal { number: 0 },
-        Reading::Refused(r) => r,
-    }
+    answer.err()
 }
 
-// Bit i of the sheet of s and the nodes; 0 past the last node.
-fn sheet_bit(s: u8, nodes: &[u32], i: usize) -> u32
-    requires { (length nodes.now ≤ 255) × (i < 65536) }
-    ensures { result ≡ get_or (sheet_bits s nodes.now) i 0 }
-{
-    if i < 4 {
-        return (s as u32 >> (3 - i)) % 2;
-    }
-    if i < 12 {
-        return (nodes.len() as u32 >> (11 - i)) % 2;
-    }
-    let k = (i - 12) / 19;
-    if k < nodes.len() {
-        return (nodes[k] >> (18 - (i - 12) % 19)) % 2;
-    }
-    0
+// What a sheet packs: s, and nodes that its count of 8 bits can tell.
+#[derive(Clone, Copy)]
+struct Packed<'a> {
+    s: u8,
+    nodes: &'a [u32],
+    ghost few: { length nodes.now ≤ 255 },
 }
 
-// Byte k of the sheet of s and the nodes.
-fn sheet_byte(s: u8, nodes: &[u32], k: usize) -> u8
-    requires { (length nodes.now ≤ 255) × (k < 8192) }
-    ensures { result ≡ field (sheet_bits s nodes.now) (8 * k) 8 }
-{
-    let mut v: u32 = 0;
-    let mut j: usize = 0;
-    while j < 8 {
-        v = v * 2 + sheet_bit(s, nodes, 8 * k + j);
-        j += 1;
+impl Packed<'_> {
+    // Bit i of the sheet; 0 past the last node.
+    fn bit(&self, i: usize) -> u32
+        ensures { result ≡ get_or (sheet_bits self.now.s self.now.nodes.now) i 0 }
+    {
+        if i < 4 {
+            return (self.s as u32 >> (3 - i)) % 2;
+        }
+        if i < 12 {
+            return (self.nodes.len() as u32 >> (11 - i)) % 2;
+        }
+        let node = self.nodes.get((i - 12) / 19).copied().unwrap_or(0);
+        (node >> (18 - (i - 12) % 19)) % 2
     }
-    (v % 256) as u8
-}
 
-// Puts the sheet of s and the nodes at the front of the output, or refuses it as too short (13).
-fn put_sheet(s: u8, nodes: &[u32], out: &mut [u8]) -> Writing
-    requires { length nodes.now ≤ 255 }
-    ensures { let size = sheet_length (length nodes.now) in
-        let short = rule 13 (ltb (length out.old) size) in
-        exit (writing result) out.new ≡ left short (size ∷ []) (sheet_of s nodes.now) out.old }
-{
-    let length = length_of(nodes.len());
-    if out.len() < length {
-        return Writing::Refused(Refusal { number: 13 });
+    // Byte k of the sheet.
+    fn byte(&self, k: usize) -> u8
+        requires { k < 8192 }
+        ensures { result ≡ field (sheet_bits self.now.s self.now.nodes.now) (8 * k) 8 }
+    {
+        number_of(|i| self.bit(i), 8 * k, 8) as u8
     }
-    let mut k: usize = 0;
-    while k < length {
-        out[k] = sheet_byte(s, nodes, k);
-        k += 1;
+
+    // Puts the sheet at the front of the output, or refuses it as too short (13).
+    fn put(&self, out: &mut [u8]) -> Result<usize, Refusal>
+        ensures { let size = sheet_length (length self.now.nodes.now) in
+            let short = rule 13 (ltb (length out.old) size) in
+            exit (writing result) out.new ≡ left short (size ∷ []) (sheet_of self.now.s self.now.nodes.now) out.old }
+    {
+        let length = length_of(self.nodes.len());
+        if out.len() < length {
+            return Err(Refusal::OutputTooShort);
+        }
+        for (k, byte) in out[..length].iter_mut().enumerate() {
+            *byte = self.byte(k);
+        }
+        Ok(length)
     }
-    Writing::Accepted(length)
 }
 
 // Writes the sheet of s and the nodes to the output.
-pub fn write(s: u8, nodes: &[u32], out: &mut [u8]) -> Writing
+pub fn write(s: u8, nodes: &[u32], out: &mut [u8]) -> Result<usize, Refusal>
     ensures { Writes s nodes.now out.old result out.new }
 {
-    match effect::check(s, nodes) {
-        Checked::Refused(r) => Writing::Refused(r),
-        Checked::Accepted(_) => put_sheet(s, nodes, out),
-    }
+    effect::check(s, nodes)?;
+    Packed { s, nodes }.put(out)
 }

@@ -5,22 +5,23 @@ use mathlib.Core.Bool.{Bool, true, false, cond}
 use mathlib.Core.Logic.{⊎_elim}
 use mathlib.Core.List.{List, [], ◌∷◌, ◌++◌, append-nil, append_assoc}
 use native.Mathlib.Nat.{eq-or-lt_of_le, le_of_suc-le-suc}
-use native.Mathlib.Numerals.{add-one}
 use native.Mathlib.Omega.{arith}
 use lib.Bits.{bit_and, bit_xor}
 use lib.Dec.{eqb}
 use borrow.Author.Tests.{eq-eqb, ne_eqb, eqb-true, eqb-false, lt-ltb}
 use Rattle.bits.specs.Bit.{bit, Mem, has, single}
-use Rattle.bits.proofs.Laws.{bit-zero, mem-dec, mem-pow, mem-without, mem-lt, set-ext, mem-zero}
-use Rattle.places.specs.Matching.{matching_by}
+use Rattle.bits.proofs.Laws.{bit-zero, mem-dec, mem-pow, mem-without, mem-zero}
 use Rattle.goals.specs.declared.Row.{Row}
 use Rattle.goals.specs.Goals.{row, each_member, each_letter}
 use Rattle.stepping.specs.declared.Source.{Source}
 use Rattle.stepping.specs.declared.Cursor.{Cursor}
-use Rattle.stepping.specs.Next.{members_at, set_at, letters_in, lowest_from, lowest_member, at_letter, at_goal, taken}
+use Rattle.stepping.specs.Next.{members_at, set_at, letters_in, lowest_from, lowest_member, at_letter, at_goal}
 use Rattle.stepping.specs.Rest.{goals_with, goals_for, letters_from, all_goals, rest, rest_of}
-use Rattle.stepping.specs.declared.Next.{Next}
-use Rattle.stepping.specs.declared.Next.TheVariants as next-variants
+use Rattle.std.proofs.Common.{Option, Some, None, w64}
+use Rattle.std.proofs.Math.Nat.{eq-zero-or-pos}
+use Rattle.std.proofs.lemmas.Nat.{trailing_le}
+use Rattle.std.proofs.lemmas.Nat.Bits.{bit_at-trailing_zeros}
+use Rattle.std.specs.Int.Count.{count_trailing_zeros, trailing_of_zero}
 
 -- ---- the letters
 members-none : (f : ℕ → Row) (n : ℕ) → each_member 0 f n ≡ []
@@ -44,23 +45,6 @@ goals-none src m s x e = ap (λ (k : ℕ). goals_with src k s x) e ∙ members-n
 pub letter-is : (src : Source) (x : ℕ) → (at_letter src x).x ≡ x + 1
 unfolding at_letter
 letter-is src x = refl
-
-module _ (src : Source) (x a : ℕ) (e : a ≡ matching_by src.left src.s x) where
-  members-is : bit_and src.follow a ≡ members_at src x
-  members-is = ap (bit_and src.follow) e
-
-  pub letter-none : bit_and src.follow a ≡ 0 → record { x = x + 1; letter = x; set = 0; members = 0 } ≡ at_letter src x
-  unfolding at_letter
-  letter-none z =
-      let q : members_at src x ≡ 0 = sym members-is ∙ z in
-      λ i. record { x = x + 1; letter = x; set = ap (λ (b : Bool). cond b 0 (set_at src x)) (sym (eq-eqb _ _ q)) i; members = sym q i }
-
-  pub letter-some : (b : ℕ) → b ≡ matching_by src.right src.s x → (bit_and src.follow a ≡ 0 → ⊥)
-      → record { x = x + 1; letter = x; set = bit_and src.spread b; members = bit_and src.follow a } ≡ at_letter src x
-  unfolding at_letter
-  letter-some b f n =
-      let q = ne_eqb (members_at src x) 0 (λ z. n (members-is ∙ z)) in
-      λ i. record { x = x + 1; letter = x; set = (ap (bit_and src.spread) f ∙ ap (λ (t : Bool). cond t 0 (set_at src x)) (sym q)) i; members = members-is i }
 
 module _ (src : Source) (c : Cursor) (z : c.members ≡ 0) (l : c.x < letters_in src) where
   abbrev there : Cursor
@@ -117,63 +101,40 @@ module _ (src : Source) (c h : Cursor) (e : h ≡ at_goal src (letters_in src - 
   pub rest-same : rest src h ≡ rest src c
   rest-same = ap (rest src) e ∙ goal-rest src (letters_in src - c.x) c refl
 
-  pub rest-none : h.members ≡ 0 → rest src c ≡ []
-  rest-none z = sym rest-same ∙ ap (rest src) e ∙ goal-none src (letters_in src - c.x) c refl (ap (λ (r : Cursor). r.members) (sym e) ∙ z)
+  pub rest_none : h.members ≡ 0 → rest src c ≡ []
+  rest_none z = sym rest-same ∙ ap (rest src) e ∙ goal-none src (letters_in src - c.x) c refl (ap (λ (r : Cursor). r.members) (sym e) ∙ z)
 
 -- ---- the lowest member
--- a set that has a member below 64 is passed to it
-pub some-member : (S : ℕ) → S < 2 ^ 64 → (S ≡ 0 → ⊥) → ((k : ℕ) → k < 64 → Mem S k → ⊥) → ⊥
-some-member S l n h = n (set-ext S 0 (λ k. ((λ m. absurd (h k (mem-lt 64 S k l m) m)), (λ m. absurd (mem-zero k m)))))
-
-module _ (S : ℕ) where
-  lowest-mem : (n j : ℕ) → lowest_from S j n < j + n → Mem S (lowest_from S j n)
+module _ (S r : ℕ) (here : r < 64 → Mem S r) (below : (i : ℕ) → i < r → Mem S i → ⊥) where
+  -- a place below which there is no member, and which is one or the end
+  lowest-at : (n j : ℕ) → j + n ≡ 64 → j ≤ r → r ≤ 64 → lowest_from S j n ≡ r
   unfolding lowest_from
-  lowest-mem zero j l = absurd (omega arith)
-  lowest-mem (suc n) j l = by (has S j) refl l (lowest-mem n (suc j))
+  lowest-at zero j e l m = omega arith
+  lowest-at (suc n) j e l m = by (has S j) refl (lowest-at n (suc j) (omega (arith, e)))
     where
-      by : (b : Bool) → has S j ≡ b → cond b j (lowest_from S (suc j) n) < j + suc n → (lowest_from S (suc j) n < suc j + n → Mem S (lowest_from S (suc j) n)) → Mem S (cond b j (lowest_from S (suc j) n))
-      by true q l more = eqb-true _ _ q
-      by false q l more = more (omega arith)
+      by : (b : Bool) → has S j ≡ b → (suc j ≤ r → r ≤ 64 → lowest_from S (suc j) n ≡ r) → cond b j (lowest_from S (suc j) n) ≡ r
+      by true q more = ⊎_elim (λ (z : j ≡ r). z) (λ (g : j < r). absurd (below j g (eqb-true _ _ q))) (eq-or-lt_of_le l)
+      by false q more = ⊎_elim
+          (λ (z : j ≡ r). absurd (eqb-false _ _ q (subst (Mem S) (sym z) (here (omega (arith, e, z))))))
+          (λ (g : j < r). more g m) (eq-or-lt_of_le l)
 
-  lowest-low : (n j i : ℕ) → j ≤ i → i < lowest_from S j n → Mem S i → ⊥
-  unfolding lowest_from
-  lowest-low zero j i h l m = omega arith
-  lowest-low (suc n) j i h l m = by (has S j) refl l (λ g k. lowest-low n (suc j) i g k m)
+module _ (S : ℕ) (fits : S < 2 ^ 64) where
+  pub lowest-some : (S ≡ 0 → ⊥) → (count_trailing_zeros 64 S < 64) × Mem S (count_trailing_zeros 64 S) × ((j : ℕ) → j < count_trailing_zeros 64 S → Mem S j → ⊥)
+  unfolding bit
+  lowest-some n =
+      let t = bit_at-trailing_zeros w64 S (omega (arith, n)) fits in
+      (t.0, t.1, λ j l m. let z = t.2 j l in omega (arith, m, z))
+
+  pub lowest-is : count_trailing_zeros 64 S ≡ lowest_member S
+  lowest-is = ⊎_elim
+      (λ (z : S ≡ 0).
+      let e : count_trailing_zeros 64 S ≡ 64 = ap (count_trailing_zeros 64) z ∙ trailing_of_zero 64 in
+      is (λ l. absurd (omega (arith, e, l))) (λ i l m. mem-zero i (subst (λ (x : ℕ). Mem x i) z m)))
+      (λ (g : 0 < S). let t = lowest-some (λ z. omega (arith, g, z)) in is (λ l. t.1) t.2)
+      (eq-zero-or-pos S)
     where
-      by : (b : Bool) → has S j ≡ b → i < cond b j (lowest_from S (suc j) n) → (suc j ≤ i → i < lowest_from S (suc j) n → ⊥) → ⊥
-      by true q k more = omega arith
-      by false q k more = ⊎_elim (λ (e : j ≡ i). eqb-false _ _ q (subst (Mem S) (sym e) m)) (λ g. more g k) (eq-or-lt_of_le h)
-
-  pub lowest-le : (n j : ℕ) → lowest_from S j n ≤ j + n
-  unfolding lowest_from
-  lowest-le zero j = omega arith
-  lowest-le (suc n) j = by (has S j) (lowest-le n (suc j))
-    where
-      by : (b : Bool) → lowest_from S (suc j) n ≤ suc j + n → cond b j (lowest_from S (suc j) n) ≤ j + suc n
-      by true h = omega arith
-      by false h = omega arith
-
-  -- a set that has a member below 2^64 has its lowest below 64
-  pub lowest-is : (r : ℕ) → r ≡ lowest_member S → S < 2 ^ 64 → (S ≡ 0 → ⊥) → (r < 64) × Mem S r × ((j : ℕ) → j < r → Mem S j → ⊥)
-  lowest-is r e l n =
-      let below : (j : ℕ) → j < r → Mem S j → ⊥ = λ j h m. lowest-low 64 0 j (omega arith) (omega (arith, h, e)) m in
-      let less : r < 64 = ⊎_elim
-      (λ (q : r ≡ 64). absurd (some-member S l n (λ k g. below k (omega (arith, g, q)))))
-      (λ g. g) (eq-or-lt_of_le (let w = lowest-le 64 0 in omega (arith, e, w))) in
-      (less, subst (Mem S) (sym e) (lowest-mem 64 0 (omega (arith, less, e))), below)
-
--- the loop that looks for it, place after place
-pub lowest-here : (S j : ℕ) → j < 64 → Mem S j → lowest_from S j (64 - j) ≡ j
-unfolding lowest_from
-lowest-here S j l m = rw (let z : 64 - j ≡ suc (64 - (j + 1)) = omega arith in z, eq-eqb _ _ m)
-
-pub lowest-next : (S j : ℕ) → j < 64 → has S j ≡ false → lowest_from S j (64 - j) ≡ lowest_from S (j + 1) (64 - (j + 1))
-unfolding lowest_from
-lowest-next S j l h = rw (let z : 64 - j ≡ suc (64 - (j + 1)) = omega arith in z, h, add-one)
-
-pub lowest-end : (S j : ℕ) → 64 ≤ j → lowest_from S j (64 - j) ≡ j
-unfolding lowest_from
-lowest-end S j l = rw (let z : 64 - j ≡ 0 = omega arith in z)
+      is : (count_trailing_zeros 64 S < 64 → Mem S (count_trailing_zeros 64 S)) → ((i : ℕ) → i < count_trailing_zeros 64 S → Mem S i → ⊥) → count_trailing_zeros 64 S ≡ lowest_member S
+      is here below = sym (lowest-at S (count_trailing_zeros 64 S) here below 64 0 refl (omega arith) (trailing_le 64 S))
 
 -- ---- the lowest member comes first, and the others after it
 module _ (S j : ℕ) (f : ℕ → Row) (here : Mem S j) (below : (k : ℕ) → k < j → Mem S k → ⊥) where
@@ -220,20 +181,8 @@ module _ (S j : ℕ) (f : ℕ → Row) (here : Mem S j) (below : (k : ℕ) → k
 
 -- ---- the next goal, and what is to come after it
 module _ (src : Source) (c : Cursor) where
-  pub taken_none : c.members ≡ 0 → next-variants.Done ≡ taken src c
-  unfolding taken
-  taken_none z = rw (eq-eqb _ _ z)
-
-  pub taken-goal : (j s : ℕ) → (c.members ≡ 0 → ⊥) → j ≡ lowest_member c.members → s ≡ single 64 j
-      → next-variants.Goal (row j c.set src.parent c.letter) (record { x = c.x; letter = c.letter; set = c.set; members = bit_xor c.members (bit_and c.members s) }) ≡ taken src c
-  unfolding taken
-  taken-goal j s n e f =
-      let k : s ≡ single 64 (lowest_member c.members) = f ∙ ap (single 64) e in
-      (λ i. next-variants.Goal (row (e i) c.set src.parent c.letter) (record { x = c.x; letter = c.letter; set = c.set; members = bit_xor c.members (bit_and c.members (k i)) }))
-      ∙ sym (rw (ne_eqb c.members 0 n))
-
   pub rest-goal : (j s : ℕ) → j < 64 → Mem c.members j → ((k : ℕ) → k < j → Mem c.members k → ⊥) → s ≡ single 64 j
-      → rest_of src (next-variants.Goal (row j c.set src.parent c.letter) (record { x = c.x; letter = c.letter; set = c.set; members = bit_xor c.members (bit_and c.members s) })) ≡ rest src c
+      → rest_of src (Some (row j c.set src.parent c.letter, record { x = c.x; letter = c.letter; set = c.set; members = bit_xor c.members (bit_and c.members s) })) ≡ rest src c
   unfolding rest_of
   rest-goal j s l here below e =
       let f : ℕ → Row = λ i. row i c.set src.parent c.letter in
@@ -279,10 +228,10 @@ letters-each src zero = none
 letters-each src (suc n) = letters-last src 0 n ∙ ap₂ ◌++◌ (letters-each src n) (ap (goals_for src) (let z : n + 0 ≡ n = omega arith in z))
 
 -- ---- what an answer of `next_goal` says of what is to come
-pub goal-comes : (src : Source) (cur : Cursor) (n : Next) (w : Row) (c : Cursor) → n ≡ next-variants.Goal w c → rest_of src n ≡ rest src cur → rest src cur ≡ w ∷ rest src c
+pub goal-comes : (src : Source) (cur : Cursor) (n : Option (Row × Cursor)) (w : Row) (c : Cursor) → n ≡ Some (w, c) → rest_of src n ≡ rest src cur → rest src cur ≡ w ∷ rest src c
 unfolding rest_of
 goal-comes src cur n w c e h = sym h ∙ ap (rest_of src) e
 
-pub none-comes : (src : Source) (cur : Cursor) (n : Next) → n ≡ next-variants.Done → rest_of src n ≡ rest src cur → rest src cur ≡ []
+pub none-comes : (src : Source) (cur : Cursor) (n : Option (Row × Cursor)) → n ≡ None → rest_of src n ≡ rest src cur → rest src cur ≡ []
 unfolding rest_of
 none-comes src cur n e h = sym h ∙ ap (rest_of src) e

@@ -1,14 +1,13 @@
 -- The goals of a row, one after the other: "letters ascending, and for each the left followers ascending that match it: the new goal is
 -- that place with all right places that follow a member of the set and match". Where they stand is a cursor by value.
-use Rattle.std.specs.Prelude.{ℕ, zero, suc, ◌+◌, ◌-◌, min, cond, eqb}
+use Rattle.std.specs.Prelude.{ℕ, zero, suc, ◌+◌, ◌-◌, min, cond, eqb, Option, Some, None}
 use Rattle.std.specs.Int.Bits.{bit_and}
 use Rattle.bits.specs.Bit.{has, single}
 use Rattle.places.specs.Matching.{without, matching_by}
+use Rattle.goals.specs.declared.Row.{Row}
 use Rattle.goals.specs.Goals.{row}
 use Rattle.stepping.specs.declared.Source.{Source}
 use Rattle.stepping.specs.declared.Cursor.{Cursor}
-use Rattle.stepping.specs.declared.Next.{Next}
-use Rattle.stepping.specs.declared.Next.TheVariants as next-variants
 
 -- the left followers that match the letter x, and the right places that follow and match
 abbrev pub members_at : Source → ℕ → ℕ
@@ -41,13 +40,13 @@ at_goal src zero c = c
 at_goal src (suc n) c = cond (eqb c.members 0) (at_goal src n (at_letter src c.x)) c
 
 -- the goal of the cursor's lowest member, and the cursor without it; none where the cursor has no member
-unfoldable pub taken : Source → Cursor → Next
+unfoldable pub taken : Source → Cursor → Option (Row × Cursor)
 taken src c =
     let j = lowest_member c.members in
     let goal = row j c.set src.parent c.letter in
     let next : Cursor = record { x = c.x; letter = c.letter; set = c.set; members = without c.members (single 64 j) } in
-    cond (eqb c.members 0) next-variants.Done (next-variants.Goal goal next)
+    cond (eqb c.members 0) None (Some (goal, next))
 
 -- what `next_goal` answers
-abbrev pub next_goal : Source → Cursor → Next
+abbrev pub next_goal : Source → Cursor → Option (Row × Cursor)
 next_goal src c = taken src (at_goal src (letters_in src - c.x) c)

@@ -1,11 +1,9 @@
 -- All the goals that are still to come at a cursor, in their order. `next_goal` answers the first of them, and where the others stand.
-use Rattle.std.specs.Prelude.{ℕ, zero, suc, ◌-◌, List, [], ◌∷◌, ◌++◌}
+use Rattle.std.specs.Prelude.{ℕ, zero, suc, ◌-◌, Option, Some, None, List, [], ◌∷◌, ◌++◌}
 use Rattle.goals.specs.declared.Row.{Row}
 use Rattle.goals.specs.Goals.{row, each_member}
 use Rattle.stepping.specs.declared.Source.{Source}
 use Rattle.stepping.specs.declared.Cursor.{Cursor}
-use Rattle.stepping.specs.declared.Next.{Next}
-use Rattle.stepping.specs.declared.Next.TheVariants as next-variants
 use Rattle.stepping.specs.Next.{members_at, set_at, letters_in}
 
 -- a goal for each of these members, ascending
@@ -30,6 +28,6 @@ abbrev pub rest : Source → Cursor → List Row
 rest src c = goals_with src c.members c.set c.letter ++ letters_from src c.x (letters_in src - c.x)
 
 -- what an answer leaves to come, its goal among it
-unfoldable pub rest_of : Source → Next → List Row
-rest_of src (next-variants.Goal w c) = w ∷ rest src c
-rest_of src next-variants.Done = []
+unfoldable pub rest_of : Source → Option (Row × Cursor) → List Row
+rest_of src (Some (w, c)) = w ∷ rest src c
+rest_of src None = []

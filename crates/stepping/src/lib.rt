@@ -1,7 +1,7 @@
 // The goals of a row, one after the other, by value: no column in sight.
 #![tactic(auto)]
 
-ghost use Rattle.std.specs.Prelude.{◌≡◌, ℕ, ◌-◌, ◌<◌, min};
+ghost use Rattle.std.specs.Prelude.{◌≡◌, ℕ, ◌-◌, ◌<◌};
 ghost use Rattle.bits.specs.Bit.{Mem};
 ghost use Rattle.stepping.specs.Next.{letters_in, lowest_member, at_letter, at_goal};
 ghost use Rattle.stepping.specs.Rest.{rest, rest_of};
@@ -24,7 +24,7 @@ pub struct Source {
 }
 
 // Where the goals of a row stand: the letters from x on are still to come, and these members of the letter before.
-#[derive(Clone, Copy)]
+#[derive(Clone, Copy, PartialEq, Eq, Debug)]
 pub struct Cursor {
     pub x: u32,
     pub letter: u16,
@@ -32,90 +32,58 @@ pub struct Cursor {
     pub members: u64,
 }
 
-// The next goal of a row and where the goals then stand, or none.
-#[derive(Clone, Copy)]
-pub enum Next {
-    Goal(Row, Cursor),
-    Done,
-}
-
 // The lowest member of a set; 64 where it has none.
 fn lowest(set: u64) -> u8
     ensures is { result ≡ lowest_member set }
     ensures member { (set ≡ 0 → ⊥) → (result < 64) × Mem set result × ((j : ℕ) → j < result → Mem set j → ⊥) }
 {
-    let mut j: u8 = 0;
-    while j < 64 {
-        if bits::has(set, j as u64) {
-            return j;
-        }
-        j += 1;
-    }
-    j
+    set.trailing_zeros() as u8
 }
 
 // The cursor at the letter x. Where no follower matches it, the right side is not looked at.
+#[tactic(auto, unfolding(crate::specs::Next::at_letter))]
 fn at_letter(from: Source, x: u32) -> Cursor
     requires { x < 65536 }
     ensures { result ≡ at_letter from x }
 {
-    let left = from.left;
-    let right = from.right;
     let letter = x as u16;
-    let members = from.follow & places::matching(left, from.s, letter);
-    if members == 0 {
-        return Cursor {
-            x: x + 1,
-            letter: letter,
-            set: 0,
-            members: 0,
-        };
-    }
-    let on_right = places::matching(right, from.s, letter);
+    let members = from.follow & places::matching(from.left, from.s, letter);
+    let set = if members == 0 {
+        0
+    } else {
+        from.spread & places::matching(from.right, from.s, letter)
+    };
     Cursor {
         x: x + 1,
-        letter: letter,
-        set: from.spread & on_right,
-        members: members,
+        letter,
+        set,
+        members,
     }
 }
 
-// How many letters there are; a letter has 16 bits.
-fn letters_in(n: u32) -> u32
-    ensures { result ≡ min n 65536 }
-{
-    if n < 65536 { n } else { 65536 }
-}
-
-// Passes the letters that have no goal.
+// Passes the letters that have no goal. A letter has 16 bits.
 fn at_goal(from: Source, at: Cursor) -> Cursor
     ensures { result ≡ at_goal from (letters_in from - at.x) at }
 {
-    let n = letters_in(from.letters);
+    let n = from.letters.min(65536);
     let mut cur = at;
-    let mut x = at.x;
-    let mut members = at.members;
-    while x < n {
-        if members != 0 {
-            return cur;
-        }
-        let next = at_letter(from, x);
-        x = next.x;
-        members = next.members;
-        cur = next;
+    while cur.members == 0 && cur.x < n {
+        cur = at_letter(from, cur.x);
     }
     cur
 }
 
-// The next goal, and that it is the first of those to come: this follows from the whole answer, and is what callers need.
-pub fn next_goal(from: Source, at: Cursor) -> Next
+// The next goal of a row and where the goals then stand, or none; and that it is the first of those to come: this follows from the whole
+// answer, and is what callers need.
+#[tactic(auto, using(crate::proofs::Laws::rest_none), unfolding(crate::specs::Next::taken, crate::specs::Rest::rest_of))]
+pub fn next_goal(from: Source, at: Cursor) -> Option<(Row, Cursor)>
     ensures whole { NextGoalIs from at result }
     ensures first { rest_of from result ≡ rest from at }
 {
     let here = at_goal(from, at);
     let members = here.members;
     if members == 0 {
-        return Next::Done;
+        return None;
     }
     let j = lowest(members);
     let goal = Row {
@@ -125,10 +93,8 @@ pub fn next_goal(from: Source, at: Cursor) -> Next
         place: j,
     };
     let next = Cursor {
-        x: here.x,
-        letter: here.letter,
-        set: here.set,
         members: members ^ (members & bits::single(j as u64)),
+        ..here
     };
-    Next::Goal(goal, next)
+    Some((goal, next))
 }

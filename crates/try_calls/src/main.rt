@@ -18,7 +18,7 @@
 //     01 SS NNNN nodes   for each letter, ascending, the set of that side's places that match it
 //
 // Bit j of a set is place j. `rest` is all that a side holds in entries of no place, joined. With a
-// refusal the side beside it is printed too, which has to be all zeros.
+// refusal the side of nothing is printed too, which has to be all zeros.
 //
 // g, goals. A record has the sides, what is lent, and the calls, which are made one after the other on the
 // same columns and the same record of a run:
@@ -51,8 +51,8 @@
 // the run with the line `bad record`. No more than 131,072 bytes of input are read.
 #![tactic(auto)]
 
-mod at;
 mod calls;
+mod fault;
 mod forge;
 mod hex;
 mod print;
@@ -62,97 +62,50 @@ mod sheets;
 mod side;
 mod tables;
 
-ghost use Rattle.std.specs.Prelude.{IfOk, ◌≤◌, length};
-
+use arrayvec::ArrayVec;
+use fault::Fault;
 use std::io::{self, Read};
 
-// Reads until the room or the input ends, and says how many bytes there were.
-fn read_full(from: &mut impl Read, room: &mut [u8]) -> io::Result<usize>
-    ensures { IfOk result (λ n. n ≤ length room.new) }
-{
-    let mut n: usize = 0;
-    for _ in 0..room.len() {
-        let read = from.read(&mut room[n..])?;
-        if read == 0 {
-            return Ok(n);
-        }
-        n += read;
-    }
-    Ok(n)
-}
-
-// Where the line that starts at `from` ends: at its line feed, or with the input.
-fn line_end(input: &[u8], from: usize) -> usize
-    requires { from ≤ length input.now }
-    ensures { (from ≤ result) × (result ≤ length input.now) }
-{
-    let mut i = from;
-    while i < input.len() {
-        if input[i] == b'\n' {
-            return i;
-        }
-        i += 1;
-    }
-    i
-}
-
-// Hands a record's bytes to the part that its letter names, which says whether it is one.
-fn hand(rt: &impl Print, letter: u8, bytes: &[u8]) -> io::Result<bool> {
+// Hands a record's bytes to the part that its letter names.
+fn call(rt: &impl Print, letter: u8, record: &[u8]) -> Result<(), Fault> {
     match letter {
-        b's' => sheets::call(rt, bytes),
-        b'p' => tables::call(rt, bytes),
-        b'g' => record::call(rt, bytes),
-        _ => Ok(false),
+        b's' => sheets::call(rt, record),
+        b'p' => tables::call(rt, record),
+        b'g' => record::call(rt, record),
+        _ => Err(Fault::NoRecord),
     }
 }
 
-// The calls of a line that is a record.
-fn call_line(rt: &impl Print, line: &[u8]) -> io::Result<bool> {
-    if line.len() == 0 {
-        return Ok(false);
+// Answers a line.
+fn answer(rt: &impl Print, line: &[u8]) -> Result<(), Fault> {
+    match line {
+        [] => Err(Fault::NoRecord),
+        [b'#', ..] => {
+            rt.write_all(line)?;
+            println!(rt)?;
+            Ok(())
+        },
+        [letter, digits @ ..] => {
+            let record = hex::bytes(digits).ok_or(Fault::NoRecord)?;
+            call(rt, *letter, &record)
+        },
     }
-    let mut bytes = hex::room();
-    let k = hex::digits(&line[1..], &mut bytes);
-    if k % 2 == 1 {
-        return Ok(false);
-    }
-    let n = hex::within(k / 2, &bytes);
-    hand(rt, line[0], &bytes[..n])
-}
-
-// Prints the answer to a line, and says whether to go on.
-fn answer(rt: &impl Print, line: &[u8]) -> io::Result<bool> {
-    if at::byte(line, 0) == b'#' {
-        print::word(rt, line)?;
-        print::word(rt, b"\n")?;
-        return Ok(true);
-    }
-    let is_record = call_line(rt, line)?;
-    if !is_record {
-        print::word(rt, b"bad record\n")?;
-    }
-    Ok(is_record)
 }
 
 // Answers line after line, up to the first that is no record.
-fn answer_all(rt: &impl Print, input: &[u8]) -> io::Result<()> {
-    let mut from: usize = 0;
-    while from < input.len() {
-        let end = line_end(input, from);
-        let is_record = answer(rt, &input[from..end])?;
-        if !is_record {
-            return Ok(());
-        }
-        if end == input.len() {
-            return Ok(());
-        }
-        from = end + 1;
+fn answer_all(rt: &impl Print, input: &[u8]) -> Result<(), Fault> {
+    for line in input.split_inclusive(|c| *c == b'\n') {
+        answer(rt, line.strip_suffix(b"\n").unwrap_or(line))?;
     }
     Ok(())
 }
 
 fn main(rt: HostRuntime) -> io::Result<()> {
-    let mut input: [u8; 131072] = [0; 131072];
-    let n = read_full(&mut rt.stdin(), &mut input)?;
-    answer_all(&rt, &input[..n])
+    let mut input = ArrayVec::<u8, 131072>::new();
+    io::copy(&mut rt.stdin().take(131072), &mut input)?;
+    match answer_all(&rt, &input) {
+        Err(Fault::NoRecord) => println!(rt; "bad record"),
+        Err(Fault::Io(why)) => Err(why),
+        Ok(()) => Ok(()),
+    }
 }

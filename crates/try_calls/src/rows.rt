@@ -1,120 +1,71 @@
-// The columns of a record, row by row. A row may lie beyond the end of some column.
-use crate::{at, print};
+// The columns of a table, row by row. A row may lie beyond the end of some column.
+use columns::Table;
 use goals::Row;
-use std::io;
+use std::ops::Range;
+use std::{fmt, io};
 
-fn put_byte(column: &mut [u8], i: usize, x: u8) {
-    if i < column.len() {
-        column[i] = x;
+// Entry i of a column, 0 past its end.
+fn at<T: Copy + Default>(column: &[T], i: usize) -> T {
+    column.get(i).copied().unwrap_or_default()
+}
+
+// A set of places, in print.
+#[derive(Clone, Copy)]
+struct Set(u64);
+
+impl fmt::Display for Set {
+    fn fmt<W: fmt::Write>(&self, f: &mut fmt::Formatter<W>) -> fmt::Result {
+        write!(f, "{:016x}", self.0)
     }
 }
 
-fn put_set(column: &mut [u64], i: usize, x: u64) {
-    if i < column.len() {
-        column[i] = x;
+// A row's number in a column; '-' where the column has no such row.
+fn show_entry(rt: &impl Print, x: Option<impl fmt::Display + Drop>) -> io::Result<()> {
+    match x {
+        Some(x) => print!(rt; " {x}"),
+        None => print!(rt; " -"),
     }
 }
 
-fn put_number(column: &mut [u16], i: usize, x: u16) {
-    if i < column.len() {
-        column[i] = x;
+// Makes these entries of a column x, where it has them.
+fn fill_column<T: Copy>(column: &mut [T], rows: &Range<usize>, x: T) {
+    for entry in column.iter_mut().take(rows.end).skip(rows.start) {
+        *entry = x;
     }
 }
 
-fn put(
-    places: &mut [u8],
-    sets: &mut [u64],
-    parents: &mut [u16],
-    letters: &mut [u16],
-    i: usize,
-    row: Row,
-) {
-    put_byte(places, i, row.place);
-    put_set(sets, i, row.set);
-    put_number(parents, i, row.parent);
-    put_number(letters, i, row.letter);
-}
-
-// Makes the rows from `from` on, below `to`, this one.
-pub(crate) fn fill(
-    places: &mut [u8],
-    sets: &mut [u64],
-    parents: &mut [u16],
-    letters: &mut [u16],
-    from: usize,
-    to: usize,
-    row: Row,
-) {
-    let mut i = from;
-    while i < to {
-        put(places, sets, parents, letters, i, row);
-        i += 1;
-    }
+// Makes these rows this one.
+pub(crate) fn fill(table: &mut Table<'_>, rows: Range<usize>, row: Row) {
+    fill_column(table.places, &rows, row.place);
+    fill_column(table.sets, &rows, row.set);
+    fill_column(table.parents, &rows, row.parent);
+    fill_column(table.letters, &rows, row.letter);
 }
 
 // The row before row i, 0 where a column has none. Row 0 is its own.
-pub(crate) fn before(
-    places: &[u8],
-    sets: &[u64],
-    parents: &[u16],
-    letters: &[u16],
-    i: usize,
-) -> Row {
-    let j = if i > 0 { i - 1 } else { 0 };
+pub(crate) fn before(table: &Table<'_>, i: usize) -> Row {
+    let j = i.saturating_sub(1);
     Row {
-        set: at::set(sets, j),
-        parent: at::short(parents, j),
-        letter: at::short(letters, j),
-        place: at::byte(places, j),
+        set: at(table.sets, j),
+        parent: at(table.parents, j),
+        letter: at(table.letters, j),
+        place: at(table.places, j),
     }
 }
 
-// A row's number in a column, where the column has the row.
-fn show_number(rt: &impl Print, there: bool, x: u64) -> io::Result<()> {
-    if there {
-        print::decimal(rt, b" ", x)
-    } else {
-        print::word(rt, b" -")
-    }
+fn show_row(rt: &impl Print, table: &Table<'_>, i: usize) -> io::Result<()> {
+    print!(rt; "row {i}:")?;
+    show_entry(rt, table.places.get(i))?;
+    show_entry(rt, table.sets.get(i).map(|set| Set(*set)))?;
+    show_entry(rt, table.parents.get(i))?;
+    show_entry(rt, table.letters.get(i))?;
+    println!(rt)
 }
 
-fn show_set(rt: &impl Print, column: &[u64], i: usize) -> io::Result<()> {
-    if i < column.len() {
-        print::set(rt, b" ", at::set(column, i))
-    } else {
-        print::word(rt, b" -")
-    }
-}
-
-fn show_row(
-    rt: &impl Print,
-    places: &[u8],
-    sets: &[u64],
-    parents: &[u16],
-    letters: &[u16],
-    i: usize,
-) -> io::Result<()> {
-    print::decimal(rt, b"row ", i as u64)?;
-    print::word(rt, b":")?;
-    show_number(rt, i < places.len(), at::byte(places, i) as u64)?;
-    show_set(rt, sets, i)?;
-    show_number(rt, i < parents.len(), at::short(parents, i) as u64)?;
-    show_number(rt, i < letters.len(), at::short(letters, i) as u64)?;
-    print::word(rt, b"\n")
-}
-
-// The rows from `from` on, below `to`, a line each; '-' where a column has no such row.
-pub(crate) fn show(
-    rt: &impl Print,
-    places: &[u8],
-    sets: &[u64],
-    parents: &[u16],
-    letters: &[u16],
-    from: usize,
-    to: usize,
-) -> io::Result<()> {
-    for i in from..to {
-        show_row(rt, places, sets, parents, letters, i)?;
+// These rows, a line each.
+pub(crate) fn show(rt: &impl Print, table: &Table<'_>, rows: Range<usize>) -> io::Result<()> {
+    for i in rows {
+        show_row(rt, table, i)?;
     }
     Ok(())
 }

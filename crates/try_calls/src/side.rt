@@ -1,66 +1,42 @@
 // A side in print: all that it holds.
-use crate::{at, print};
 use places::Side;
 use std::io;
 
-fn show_place(rt: &impl Print, j: usize, present: u16, absent: u16, follow: u64) -> io::Result<()> {
-    print::decimal(rt, b"place ", j as u64)?;
-    print::mask(rt, b" present ", present)?;
-    print::mask(rt, b" absent ", absent)?;
-    print::set(rt, b" follow ", follow)?;
-    print::word(rt, b"\n")
+fn show_head(rt: &impl Print, side: &Side) -> io::Result<()> {
+    let Side {
+        s,
+        count,
+        accepts,
+        follow,
+        ..
+    } = side;
+    let empty = accepts % 2;
+    let first = follow[0];
+    println!(rt; "s {s} places {count} empty {empty} accepts {accepts:016x} first {first:016x}")
 }
 
-fn show_places(
-    rt: &impl Print,
-    count: u8,
-    present: [u16; 64],
-    absent: [u16; 64],
-    follow: [u64; 64],
-) -> io::Result<()> {
-    for j in 0..count {
-        let k = j as usize + 1;
-        show_place(
-            rt,
-            k,
-            at::short(&present, k),
-            at::short(&absent, k),
-            at::set(&follow, k),
-        )?;
+fn show_places(rt: &impl Print, side: &Side) -> io::Result<()> {
+    let masks = side.present.iter().zip(side.absent.iter());
+    let entries = masks.zip(side.follow.iter()).enumerate();
+    for (j, ((present, absent), follow)) in entries.skip(1).take(side.count as usize) {
+        println!(rt; "place {j} present {present:04x} absent {absent:04x} follow {follow:016x}")?;
     }
     Ok(())
 }
 
-fn joined(present: u16, absent: u16) -> u64 {
-    present as u64 | absent as u64
-}
-
 // All entries of no place, joined: place 0 has no masks, and above the last there is nothing.
-fn rest(count: u8, present: [u16; 64], absent: [u16; 64], follow: [u64; 64]) -> u64 {
-    let mut all = joined(present[0], absent[0]);
-    let mut j = count as usize;
-    while j < 63 {
-        j += 1;
-        all = all | joined(present[j], absent[j]) | follow[j];
+fn rest(side: &Side) -> u64 {
+    let mut all = u64::from(side.present[0] | side.absent[0]);
+    let masks = side.present.iter().zip(side.absent.iter());
+    let entries = masks.zip(side.follow.iter());
+    for ((present, absent), follow) in entries.skip(side.count as usize + 1) {
+        all |= u64::from(*present | *absent) | *follow;
     }
     all
 }
 
-fn show_head(rt: &impl Print, side: Side) -> io::Result<()> {
-    let follow = side.follow;
-    print::decimal(rt, b"s ", side.s as u64)?;
-    print::decimal(rt, b" places ", side.count as u64)?;
-    print::decimal(rt, b" empty ", side.accepts % 2)?;
-    print::set(rt, b" accepts ", side.accepts)?;
-    print::set(rt, b" first ", follow[0])?;
-    print::word(rt, b"\n")
-}
-
-pub(crate) fn show(rt: &impl Print, side: Side) -> io::Result<()> {
-    let present = side.present;
-    let absent = side.absent;
-    let follow = side.follow;
+pub(crate) fn show(rt: &impl Print, side: &Side) -> io::Result<()> {
     show_head(rt, side)?;
-    show_places(rt, side.count, present, absent, follow)?;
-    print::set(rt, b"rest ", rest(side.count, present, absent, follow))
+    show_places(rt, side)?;
+    println!(rt; "rest {:016x}", rest(side))
 }

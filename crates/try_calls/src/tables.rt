@@ -1,69 +1,48 @@
 // A record's call on a node table, and its answer in print.
-use crate::{at, hex, print, side};
-use places::{Prepared, Side};
+use crate::fault::Fault;
+use crate::{hex, side};
+use effect::Refusal;
+use places::Side;
 use std::io;
 
-// With a refusal the side beside it is printed too: it has to be all zeros.
-fn show_side(rt: &impl Print, p: Prepared) -> io::Result<()> {
-    let number = p.refusal.number;
-    let side = p.side;
-    if number != 0 {
-        print::decimal(rt, b"refused ", number as u64)?;
-        print::word(rt, b"\n")?;
+// With a refusal the side of nothing is printed too, which is all zeros.
+fn show_side(rt: &impl Print, answer: Result<Side, Refusal>) -> io::Result<()> {
+    if let Err(why) = answer {
+        println!(rt; "refused {}", why.number())?;
     }
-    side::show(rt, side)?;
-    print::word(rt, b"\n")
+    side::show(rt, &answer.unwrap_or(places::no_side()))
 }
 
-// How many letters there are: 2^s, and a side has at most 8 signals.
-fn letters_of(s: u8) -> u16 {
-    match s {
-        0 => 1,
-        1 => 2,
-        2 => 4,
-        3 => 8,
-        4 => 16,
-        5 => 32,
-        6 => 64,
-        7 => 128,
-        _ => 256,
-    }
-}
-
+// For each letter; a side has at most 8 signals.
 fn show_letters(rt: &impl Print, side: Side) -> io::Result<()> {
     let naming = places::naming_of(side);
-    for x in 0..letters_of(side.s) {
-        print::set(rt, b" ", places::matching(naming, side.s, x))?;
+    for x in 0..1 << side.s.min(8) {
+        print!(rt; " {:016x}", places::matching(naming, side.s, x))?;
     }
     Ok(())
 }
 
-fn show_matching(rt: &impl Print, p: Prepared) -> io::Result<()> {
-    let number = p.refusal.number;
-    let side = p.side;
-    print::word(rt, b"matching")?;
-    if number == 0 {
-        show_letters(rt, side)?;
-    } else {
-        print::decimal(rt, b" refused ", number as u64)?;
+fn show_matching(rt: &impl Print, answer: Result<Side, Refusal>) -> io::Result<()> {
+    print!(rt; "matching")?;
+    match answer {
+        Ok(side) => show_letters(rt, side)?,
+        Err(why) => print!(rt; " refused {}", why.number())?,
     }
-    print::word(rt, b"\n")
+    println!(rt)
 }
 
-// Makes the call of a record, XX SS NNNN nodes, and says whether there is one. Where there is none, nothing
-// is printed.
-pub(crate) fn call(rt: &impl Print, record: &[u8]) -> io::Result<bool> {
-    let mut nodes = hex::table();
-    let are_nodes = hex::nodes(record, 4, &mut nodes);
-    if !are_nodes {
-        return Ok(false);
+// Makes the call of a record, XX SS NNNN nodes.
+pub(crate) fn call(rt: &impl Print, record: &[u8]) -> Result<(), Fault> {
+    match record {
+        [0, s, n1, n0, rest @ ..] => {
+            let nodes = hex::nodes([*n1, *n0], rest)?;
+            show_side(rt, places::prepare(*s, &nodes))?;
+        }
+        [1, s, n1, n0, rest @ ..] => {
+            let nodes = hex::nodes([*n1, *n0], rest)?;
+            show_matching(rt, places::prepare(*s, &nodes))?;
+        }
+        _ => return Err(Fault::NoRecord),
     }
-    let s = at::byte(record, 1);
-    let n = hex::entries(hex::count(record) as usize, &nodes);
-    match at::byte(record, 0) {
-        0 => show_side(rt, places::prepare(s, &nodes[..n]))?,
-        1 => show_matching(rt, places::prepare(s, &nodes[..n]))?,
-        _ => return Ok(false),
-    }
-    Ok(true)
+    Ok(())
 }

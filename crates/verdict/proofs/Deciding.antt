@@ -1,19 +1,10 @@
 -- Start, then a run call that ends the run: what the two calls leave is what `decide` promises, and what that says of the answer.
-use Prim.Native.Nat.{ℕ, ◌≤◌}
-use mathlib.Core.Path.{◌≡◌, refl, sym, ap, ap₂, subst, ◌∙◌}
-use mathlib.Core.Bool.{Bool, true, false, cond}
-use mathlib.Core.List.{List, [], ◌∷◌}
-use native.Mathlib.Nat.{le_trans}
-use native.Mathlib.Omega.{arith}
-use lib.Dec.{eqb}
-use lib.ListN.{length, get_or}
+use Rattle.std.proofs.Common.{Result, Ok, Err, ℕ, ◌≤◌, ◌≡◌, refl, sym, ap, ap₂, subst, ◌∙◌, Bool, true, false, cond, List, [], ◌∷◌, le_trans, arith, eqb, length, get_or}
 use Rattle.goals.specs.declared.Row.{Row}
 use Rattle.goals.specs.declared.Run.{Run}
 use Rattle.goals.specs.declared.SideRefusal.{SideRefusal}
 use Rattle.goals.specs.Run.{State, started}
 use Rattle.goals.specs.Refusals.{Given, record_of, Against, against, against_of, start_refusal, run_refusal, Reply, Leaves, leaves, exit, values_of, run_after}
-use Rattle.columns.specs.declared.Called.{Called}
-use Rattle.columns.specs.declared.Called.TheVariants as called-variants
 use Rattle.columns.proofs.Tables as core
 use Rattle.columns.specs.Calls.{Columns, put, lent_in, called}
 use Rattle.columns.specs.Core.{Fits}
@@ -30,11 +21,11 @@ values-tell r r' h =
     let value : (i : ℕ) → get_or (values_of r) i 0 ≡ get_or (values_of r') i 0 = λ i. ap (λ (v : List ℕ). get_or v i 0) h in
     λ i. record { settled = value 0 i; used = value 1 i; outcome = value 2 i }
 
-called-accepted : (answer : Called) (held : Run) → answer ≡ called-variants.Accepted held → called answer ≡ record { refusal = against 0 0; values = values_of held }
+called-accepted : (answer : Result Run SideRefusal) (held : Run) → answer ≡ Ok held → called answer ≡ record { refusal = against 0 0; values = values_of held }
 unfolding called
 called-accepted answer held e = ap called e
 
-called-refused : (answer : Called) (why : SideRefusal) → answer ≡ called-variants.Refused why → called answer ≡ record { refusal = against_of why; values = [] }
+called-refused : (answer : Result Run SideRefusal) (why : SideRefusal) → answer ≡ Err why → called answer ≡ record { refusal = against_of why; values = [] }
 unfolding called
 called-refused answer why e = ap called e
 
@@ -88,7 +79,7 @@ module _ (g : Given) (room : ℕ) (small : room ≤ 65535) (starts : start_refus
   fits = le_trans (end-some g room small starts) (end_fits g room small starts)
 
   -- a run call on what start left
-  runs_on : (answer : Called) (c2 : Columns) → core.RunsOf g room c1 (record_of started) room answer c2
+  runs_on : (answer : Result Run SideRefusal) (c2 : Columns) → core.RunsOf g room c1 (record_of started) room answer c2
       → exit (called answer) c2 ≡ leaves (start_refusal g room) (values_of (record_of st)) (put st.rows c) c
   runs_on answer c2 h =
       h
@@ -100,14 +91,14 @@ module _ (g : Given) (room : ℕ) (small : room ≤ 65535) (starts : start_refus
 
 -- ---- `decide`
 -- start refuses
-pub decides-refused : (g : Given) (c c' : Columns) (why : SideRefusal) (answer : Called) → answer ≡ called-variants.Refused why → lent_in 1024 c ≡ 1024
+pub decides-refused : (g : Given) (c c' : Columns) (why : SideRefusal) (answer : Result Run SideRefusal) → answer ≡ Err why → lent_in 1024 c ≡ 1024
     → core.StartsOf g 1024 c answer c' → Decides g c answer c'
 decides-refused g c c' why answer e lent h =
     none-leaves (called answer) (start_refusal g 1024) 0 (1 ∷ 0 ∷ []) (put started.rows c) c c' (ap (λ (r : Reply). r.values) (called-refused answer why e))
     (h ∙ ap (λ (n : ℕ). leaves (start_refusal g n) (values_of (record_of started)) (put started.rows c) c) lent) _ _
 
 -- start accepts, and the run call ends the run
-pub decides-ran : (g : Given) (c c1 c2 : Columns) (held : Run) (begun answer : Called) → begun ≡ called-variants.Accepted held → lent_in 1024 c ≡ 1024
+pub decides-ran : (g : Given) (c c1 c2 : Columns) (held : Run) (begun answer : Result Run SideRefusal) → begun ≡ Ok held → lent_in 1024 c ≡ 1024
     → core.StartsOf g 1024 c begun c1 → core.RunsOf g 1024 c1 held 1024 answer c2 → Decides g c answer c2
 decides-ran g c c1 c2 held begun answer e lent s h =
     let told = called-accepted begun held e in
@@ -119,7 +110,7 @@ decides-ran g c c1 c2 held begun answer e lent s h =
 
 -- ---- what the promise says
 -- accepted: columns and record are those of the run that ended
-pub ended_of : (g : Given) (c c' : Columns) (held : Run) (answer : Called) → answer ≡ called-variants.Accepted held → lent_in 1024 c ≡ 1024
+pub ended_of : (g : Given) (c c' : Columns) (held : Run) (answer : Result Run SideRefusal) → answer ≡ Ok held → lent_in 1024 c ≡ 1024
     → Decides g c answer c' → Ended g c' held
 ended_of g c c' held answer e lent h =
     let told = called-accepted answer held e in
@@ -133,7 +124,7 @@ ended_of g c c' held answer e lent h =
     }
 
 -- refused: the answer names start's refusal
-pub decides-refuses : (g : Given) (c c' : Columns) (why : SideRefusal) (answer : Called) → answer ≡ called-variants.Refused why
+pub decides-refuses : (g : Given) (c c' : Columns) (why : SideRefusal) (answer : Result Run SideRefusal) → answer ≡ Err why
     → Decides g c answer c' → (against_of why ≡ start_refusal g 1024) × (eqb (start_refusal g 1024).number 0 ≡ false)
 decides-refuses g c c' why answer e h =
     let told = called-refused answer why e in

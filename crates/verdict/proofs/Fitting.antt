@@ -1,9 +1,5 @@
 -- What is printed fits the bytes that hold it, and the first `len` of them are the lines.
-use Prim.Native.Nat.{ℕ, ◌≤◌}
-use mathlib.Core.Path.{◌≡◌, ap, ◌∙◌}
-use mathlib.Core.List.{List}
-use native.Mathlib.Omega.{arith}
-use lib.ListN.{length, take, drop, replicate, length-append}
+use Rattle.std.proofs.Common.{ℕ, ◌≤◌, ◌≡◌, ap, ◌∙◌, List, arith, length, take, drop, replicate, length-append}
 use lib.Seq.{take-append_seam}
 use Rattle.verdict.specs.declared.Lines.{Lines}
 use Rattle.program.specs.Program.{lines_of}

@@ -1,57 +1,69 @@
 -- Texts put at the front of the output one after another, and the digits of a number.
-use Prim.Native.Nat.{ℕ, zero, suc, ◌+◌, ◌*◌, ◌/◌, ◌%◌, ◌≤◌, ◌<◌}
-use mathlib.Core.Path.{◌≡◌, refl, sym, ap, subst, ◌∙◌}
-use mathlib.Core.Bool.{Bool, true, false, cond}
-use mathlib.Core.List.{List, [], ◌∷◌, ◌++◌, append_assoc, append-nil}
-use native.Mathlib.Omega.{arith}
-use lib.Dec.{eqb, ltb}
-use lib.ListN.{length, take, drop, set, length-append}
-use lib.Seq.{take_at, length-take-le}
-use borrow.Author.Tests.{lt-ltb, le-ltb, ltb-true, ltb-false}
-use Rattle.effect.specs.Refusals.{front}
-use Rattle.effect.proofs.Front.{front-next, front-front, front-taken}
+use Rattle.std.proofs.Common.{ℕ, zero, suc, ◌+◌, ◌*◌, ◌/◌, ◌%◌, ◌^◌, ◌≤◌, ◌<◌, ◌≡◌, refl, sym, ap, ◌∙◌, Bool, true, false, cond, not, List, [], ◌∷◌, ◌++◌, append_assoc, append-nil, arith, eqb, ltb, length, take, drop, replicate, length-append, take_at, length-take-le, lt-ltb, le-ltb, ltb-true, ltb-false, eqb-true}
+use borrow.Author.Tests.{not-false}
+use Rattle.std.specs.Fmt.{decimal as std-decimal}
+use Rattle.std.proofs.lemmas.Fmt.{AppendsLastDigit, decimal_from_appends, decimal_digit, decimal_step, length-decimal-le, length-decimal-le_succ}
+use Rattle.effect.specs.Refusals.{front, some_below}
+use Rattle.effect.proofs.Laws.{below_none}
+use Rattle.effect.proofs.Front.{front-front, front-taken}
 use Rattle.program.specs.Lines.{ascii, digit, decimal_in, decimal, letter, letters, outcome_line, counts_line, side_text}
-use Rattle.verdict.specs.Core.{Puts}
-
--- what stands before the place behind a text
-stands : (t before : List ℕ) (at : ℕ) → at ≤ length before → length (take at before ++ t) ≡ at + length t
-stands t before at h = length-append (take at before) t ∙ ap (λ (k : ℕ). k + length t) (length-take-le at before h)
+use Rattle.verdict.specs.declared.Lines.{Lines}
+use Rattle.verdict.specs.Core.{of_text, with_text}
 
 -- a text, and behind it another
-pub puts-both :
-    (t u before out out' : List ℕ) (at n m : ℕ) → at ≤ length before → Puts t at before n out → Puts u n out m out' → Puts (t ++ u) at before m out'
-puts-both t u before out out' at n m h p q =
-    let l = stands t before at h in
-    let here : take n out ≡ take at before ++ t =
-    ap (λ (o : List ℕ). take n o) p.bytes ∙ take_at (take at before ++ t) (drop (length (take at before ++ t)) before) n (l ∙ sym p.next) in
-    let all : take n out ++ u ≡ take at before ++ (t ++ u) = ap (λ (x : List ℕ). x ++ u) here ∙ append_assoc (take at before) t u in
-    record {
-      next = omega (arith, q.next, p.next, length-append t u);
-      bytes =
-          q.bytes
-          ∙ ap (λ (x : List ℕ). front x out) all
-          ∙ ap (λ (o : List ℕ). front (take at before ++ (t ++ u)) o) p.bytes
-          ∙ front-front (take at before ++ t) (take at before ++ (t ++ u)) before
-          (omega (arith, l, stands (t ++ u) before at h, length-append t u));
-    }
+pub both_texts :
+    (t u : List ℕ) (before out after : Lines) → before.len ≤ length before.bytes → out ≡ with_text t before → after ≡ with_text u out
+    → after ≡ with_text (t ++ u) before
+both_texts t u before out after h p q = q ∙ ap (with_text u) p ∙ (λ i. record { bytes = bytes i; len = len i })
+  where
+    first : List ℕ
+    first = take before.len before.bytes ++ t
 
--- a text of one byte
-pub puts-byte : (x at : ℕ) (before : List ℕ) → at < length before → Puts (x ∷ []) at before (at + 1) (set before at x)
-puts-byte x at before h =
-    record {
-      next = refl;
-      bytes =
-          ap (λ (o : List ℕ). set o at x) (sym (front-taken at before (omega arith)))
-          ∙ front-next (take at before) before at x (length-take-le at before (omega arith)) h;
-    }
+    stands : (v : List ℕ) → length (take before.len before.bytes ++ v) ≡ before.len + length v
+    stands v = length-append (take before.len before.bytes) v ∙ ap (λ (k : ℕ). k + length v) (length-take-le before.len before.bytes h)
 
--- nothing
-pub puts-nothing : (at : ℕ) (before : List ℕ) → at ≤ length before → Puts [] at before at before
-puts-nothing at before h = record { next = omega arith; bytes = sym (ap (λ (x : List ℕ). front x before) (append-nil (take at before)) ∙ front-taken at before h) }
+    len : before.len + length t + length u ≡ before.len + length (t ++ u)
+    len = omega (arith, length-append t u)
+
+    bytes : front (take (before.len + length t) (front first before.bytes) ++ u) (front first before.bytes)
+        ≡ front (take before.len before.bytes ++ (t ++ u)) before.bytes
+    bytes =
+        ap (λ (x : List ℕ). front (x ++ u) (front first before.bytes)) (take_at first (drop (length first) before.bytes) _ (stands t))
+        ∙ ap (λ (x : List ℕ). front x (front first before.bytes)) (append_assoc (take before.len before.bytes) t u)
+        ∙ front-front first (take before.len before.bytes ++ (t ++ u)) before.bytes (omega (arith, stands t, stands (t ++ u), length-append t u))
+
+-- nothing put
+pub no_text : (out : Lines) → out.len ≤ length out.bytes → out ≡ with_text [] out
+no_text out h = λ i. record { bytes = bytes i; len = len i }
+  where
+    len : out.len ≡ out.len + 0
+    len = omega arith
+
+    bytes : out.bytes ≡ front (take out.len out.bytes ++ []) out.bytes
+    bytes = sym (ap (λ (x : List ℕ). front x out.bytes) (append-nil (take out.len out.bytes)) ∙ front-taken out.len out.bytes h)
+
+-- a text put in an output where nothing stands
+pub whole_text : (t : List ℕ) (before out : Lines) → before ≡ of_text [] → out ≡ with_text t before → out ≡ of_text t
+whole_text t before out p q = q ∙ ap (with_text t) p ∙ at_front (replicate 4096 0)
+  where
+    at_front : (zeros : List ℕ)
+        → with_text t (record { bytes = front [] zeros; len = 0 }) ≡ record { bytes = front t zeros; len = length t }
+    at_front zeros = λ i. record { bytes = front t zeros; len = (let z : 0 + length t ≡ length t = omega arith in z) i }
+
+-- where nothing stands, nothing is past the end
+pub nothing_put : (out : Lines) → out ≡ of_text [] → out.len ≡ 0
+nothing_put out e = ap (λ (x : Lines). x.len) e
+
+pub nothing : (out : Lines) → out ≡ of_text [] → out.len ≤ length out.bytes
+nothing out e = omega (arith, nothing_put out e)
 
 -- a text told by another name
-pub puts-as : (t u before out : List ℕ) (at n : ℕ) → t ≡ u → Puts t at before n out → Puts u at before n out
-puts-as t u before out at n e p = subst (λ (x : List ℕ). Puts x at before n out) e p
+pub same_text : (t u : List ℕ) (before out : Lines) → t ≡ u → out ≡ with_text t before → out ≡ with_text u before
+same_text t u before out e p = p ∙ ap (λ (x : List ℕ). with_text x before) e
+
+-- how much stands behind it
+pub stands_to : (t : List ℕ) (before out : Lines) → out ≡ with_text t before → out.len ≡ before.len + length t
+stands_to t before out p = ap (λ (x : Lines). x.len) p
 
 -- the digits of n, by whether it has one
 decimal-by : (f n : ℕ) (b : Bool) → ltb n 10 ≡ b
@@ -59,57 +71,47 @@ decimal-by : (f n : ℕ) (b : Bool) → ltb n 10 ≡ b
 unfolding decimal_in
 decimal-by f n b e = ap (λ (c : Bool). elim c [ true ↦ digit n ∷ [] | false ↦ decimal_in f (n / 10) ++ (digit (n % 10) ∷ []) ]) e
 
--- a number of one digit, and one of more, in digits enough
-one-digit : (f n : ℕ) → n < 10 → decimal_in f n ≡ digit n ∷ []
+-- a digit below 10 is that far behind the first
+abbrev misplaced : ℕ → Bool
+misplaced d = not (eqb (digit d) (48 + d))
+
+digits-placed : some_below 10 misplaced ≡ false
+unfolding some_below digit ascii
+digits-placed = refl
+
+digit-placed : (d : ℕ) → d < 10 → digit d ≡ 48 + d
+digit-placed d h = eqb-true _ _ (not-false _ ((below_none misplaced 10).0 digits-placed d h))
+
+-- these are the digits that the library writes
+appends : AppendsLastDigit decimal_in
+appends = record {
+  one = λ f n h. decimal-by f n true (lt-ltb n 10 h) ∙ ap (λ (x : ℕ). x ∷ []) (digit-placed n h);
+  more = λ f n h.
+      decimal-by f n false (le-ltb n 10 h)
+      ∙ ap (λ (x : ℕ). decimal_in f (n / 10) ++ (x ∷ [])) (digit-placed (n % 10) (omega arith));
+}
+
+short : (n : ℕ) → 10 ≤ n → n < 2 ^ 64 → length (std-decimal n) ≤ n
+short n h small =
+    omega (arith, ap length (decimal_step n h small) ∙ length-append (std-decimal (n / 10)) ((48 + n % 10) ∷ []), length-decimal-le_succ (n / 10) (omega (arith, small)))
+
+alone : (f n : ℕ) → n < 10 → decimal_in f n ≡ (48 + n) ∷ []
 unfolding decimal_in
-one-digit zero n h = refl
-one-digit (suc f) n h = decimal-by f n true (lt-ltb n 10 h)
+alone zero n h = ap (λ (x : ℕ). x ∷ []) (digit-placed n h)
+alone (suc f) n h = appends.one f n h
 
-more-digits : (f n : ℕ) → 10 ≤ n → decimal_in (suc f) n ≡ decimal_in f (n / 10) ++ (digit (n % 10) ∷ [])
-more-digits f n h = decimal-by f n false (le-ltb n 10 h)
-
-enough : (f g n : ℕ) → n ≤ f → n ≤ g → decimal_in f n ≡ decimal_in g n
-enough zero g n h k = one-digit zero n (omega arith) ∙ sym (one-digit g n (omega arith))
-enough (suc f) zero n h k = one-digit (suc f) n (omega arith) ∙ sym (one-digit zero n (omega arith))
-enough (suc f) (suc g) n h k = by (ltb n 10) refl (λ l. enough f g (n / 10) (omega arith) (omega arith))
+pub decimal-written : (n : ℕ) → n < 2 ^ 64 → std-decimal n ≡ decimal n
+decimal-written n small = by (ltb n 10) refl
   where
-    by : (b : Bool) → ltb n 10 ≡ b → (10 ≤ n → decimal_in f (n / 10) ≡ decimal_in g (n / 10)) → decimal_in (suc f) n ≡ decimal_in (suc g) n
-    by true e r = decimal-by f n true e ∙ sym (decimal-by g n true e)
-    by false e r =
-        decimal-by f n false e
-        ∙ ap (λ (l : List ℕ). l ++ (digit (n % 10) ∷ [])) (r (ltb-false n 10 e))
-        ∙ sym (decimal-by g n false e)
+    by : (b : Bool) → ltb n 10 ≡ b → std-decimal n ≡ decimal n
+    by true e = decimal_digit n (ltb-true n 10 e) ∙ sym (alone n n (ltb-true n 10 e))
+    by false e = sym (decimal_from_appends decimal_in appends n n small (short n (ltb-false n 10 e) small))
 
-pub decimal-one : (n : ℕ) → n < 10 → decimal n ≡ digit n ∷ []
-decimal-one n h = one-digit n n h
-
-pub decimal-more : (n : ℕ) → 10 ≤ n → decimal n ≡ decimal (n / 10) ++ (digit (n % 10) ∷ [])
-decimal-more n h =
-    enough n (suc n) n (omega arith) (omega arith) ∙ more-digits n n h
-    ∙ ap (λ (l : List ℕ). l ++ (digit (n % 10) ∷ [])) (enough n (n / 10) (n / 10) (omega arith) (omega arith))
-
-pub length-decimal : (n : ℕ) → 10 ≤ n → length (decimal n) ≡ length (decimal (n / 10)) + 1
-length-decimal n h = ap length (decimal-more n h) ∙ length-append (decimal (n / 10)) (digit (n % 10) ∷ [])
-
--- a number has a digit, and no more than four below 10,000
-pub some-digit : (n : ℕ) → 1 ≤ length (decimal n)
-some-digit n = by (ltb n 10) refl
-  where
-    by : (b : Bool) → ltb n 10 ≡ b → 1 ≤ length (decimal n)
-    by true e = let z : length (decimal n) ≡ 1 = ap length (decimal-one n (ltb-true n 10 e)) in omega (arith, z)
-    by false e = omega (arith, length-decimal n (ltb-false n 10 e))
-
-few-digits : (k n m : ℕ) → m ≡ n / 10 → length (decimal m) ≤ k → length (decimal n) ≤ k + 1
-few-digits k n m i h = by (ltb n 10) refl
-  where
-    by : (b : Bool) → ltb n 10 ≡ b → length (decimal n) ≤ k + 1
-    by true e = let z : length (decimal n) ≡ 1 = ap length (decimal-one n (ltb-true n 10 e)) in omega (arith, z)
-    by false e = omega (arith, length-decimal n (ltb-false n 10 e), subst (λ (x : ℕ). length (decimal x) ≤ k) i h)
-
+-- a number below 10,000 has no more than four
 pub four-digits : (n : ℕ) → n < 10000 → length (decimal n) ≤ 4
 four-digits n h =
-    few-digits 3 n (n / 10) refl (few-digits 2 (n / 10) (n / 10 / 10) refl (few-digits 1 (n / 10 / 10) (n / 10 / 10 / 10) refl
-    (let z : length (decimal (n / 10 / 10 / 10)) ≡ 1 = ap length (decimal-one (n / 10 / 10 / 10) (omega arith)) in omega (arith, z))))
+    let small : n < 2 ^ 64 = omega arith in
+    omega (arith, ap length (decimal-written n small), length-decimal-le 4 n (omega arith) (omega arith) small)
 
 -- a letter is three bytes, and so is each of a trace
 pub length-letters : (word : List ℕ) → length (letters word) ≡ 3 * length word
@@ -138,7 +140,7 @@ length-outcome o = by (eqb o 1) (eqb o 2)
     by false false = omega arith
 
 -- and line 2 has 26, with counts that fit the room
-pub length-counts : (a b : ℕ) → a ≤ 1024 → b ≤ 1024 → length (counts_line a b) ≤ 26
+length-counts : (a b : ℕ) → a ≤ 1024 → b ≤ 1024 → length (counts_line a b) ≤ 26
 unfolding counts_line ascii
 length-counts a b h k =
     let one = ascii "settled " ++ decimal a in
@@ -153,3 +155,9 @@ length-counts a b h k =
       four-digits a (omega arith),
       four-digits b (omega arith),
     )
+
+pub counts_to : (a b : ℕ) (before out : Lines) → out ≡ with_text (counts_line a b) before → a ≤ 1024 → b ≤ 1024 → out.len ≤ before.len + 26
+counts_to a b before out p h k = omega (arith, stands_to _ before out p, length-counts a b h k)
+
+-- what a text's length and a number's digits are
+pub ruleset texts = (nothing_put, stands_to, decimal-written, four-digits, length-letters, length-side)

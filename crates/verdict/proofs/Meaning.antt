@@ -1,7 +1,5 @@
 -- What `verdict` answers is true: the first `len` bytes are the program's lines, and those say what they mean.
-use Prim.Native.Nat.{ℕ}
-use mathlib.Core.Path.{refl, ◌∙◌}
-use mathlib.Core.List.{List}
+use Rattle.std.proofs.Common.{ℕ, refl, ◌∙◌, List}
 use Rattle.program.specs.Meaning.{prints_lines}
 use Rattle.program.proofs.Meaning.{lines-mean}
 use Rattle.verdict.specs.Prints.{prints_answer, VerdictSays}

@@ -1,42 +1,15 @@
 -- The input's parting into two sheets, what the reader says of each, and the lines that follow.
-use Prim.Native.Nat.{ℕ, ◌-◌, min}
-use mathlib.Core.Path.{◌≡◌, refl, sym, ap, ap₂, ◌∙◌}
-use mathlib.Core.Bool.{Bool, true, false, cond}
-use mathlib.Core.List.{List, [], ◌∷◌}
-use native.Mathlib.Nat.{le_refl, le_of_lt, min-eq_left, min-eq_right}
-use native.Mathlib.Omega.{arith}
-use lib.Dec.{eqb, ltb}
-use lib.ListN.{length, get_or, take, drop, length-drop, drop_of_length-le}
-use lib.Seq.{take_all, take_at, take-length}
-use borrow.Author.Tests.{ltb-true, ltb-false}
+use Rattle.std.proofs.Common.{Result, Ok, Err, ℕ, ◌-◌, ◌≡◌, refl, sym, ap, ap₂, ◌∙◌, Bool, true, false, cond, List, [], ◌∷◌, arith, eqb, length, get_or, take, drop, length-drop, take_all, take_at}
 use Rattle.effect.specs.Refusals.{Answer, front}
-use Rattle.sheet.specs.declared.Reading.{Reading}
-use Rattle.sheet.specs.declared.Reading.TheVariants as reading-variants
+use Rattle.sheet.specs.declared.Header.{Header}
 use Rattle.effect.specs.declared.Refusal.{Refusal}
 use Rattle.sheet.specs.Sheet.{signals_in, count_in, nodes_in, read_refusal, Left, exit, left, reading, read_of, Reads}
-use Rattle.sheet.proofs.Header.{length-nodes}
+use Rattle.sheet.proofs.Heading.{length-nodes}
 use Rattle.goals.specs.Refusals.{Against, against}
 use Rattle.program.specs.Lines.{refused_line, ended_lines}
 use Rattle.program.specs.Program.{left_sheet, right_sheet, sides_in, refusal_in, ended_on, lines_of}
 use Rattle.program.proofs.Accepted.{refusal-skip, refusal-here, start_is}
 use Rattle.verdict.specs.Core.{comparison_lines}
-
--- no more bytes than there are
-pub part_left : (n : ℕ) (input : List ℕ) → take (min n (length input)) input ≡ take n input
-part_left n input = by (ltb n (length input)) refl
-  where
-    by : (b : Bool) → ltb n (length input) ≡ b → take (min n (length input)) input ≡ take n input
-    by true e = ap (λ (k : ℕ). take k input) (min-eq_left (le_of_lt (ltb-true n (length input) e)))
-    by false e = ap (λ (k : ℕ). take k input) (min-eq_right (ltb-false n (length input) e)) ∙ take-length input ∙ sym (take_all n input (ltb-false n (length input) e))
-
-pub part_right : (n : ℕ) (input : List ℕ) → drop (min n (length input)) input ≡ drop n input
-part_right n input = by (ltb n (length input)) refl
-  where
-    by : (b : Bool) → ltb n (length input) ≡ b → drop (min n (length input)) input ≡ drop n input
-    by true e = ap (λ (k : ℕ). drop k input) (min-eq_left (le_of_lt (ltb-true n (length input) e)))
-    by false e =
-        ap (λ (k : ℕ). drop k input) (min-eq_right (ltb-false n (length input) e)) ∙ drop_of_length-le input {i = length input} (le_refl (length input))
-        ∙ sym (drop_of_length-le input {i = n} (ltb-false n (length input) e))
 
 -- all that is left
 pub part-rest : (n : ℕ) (input : List ℕ) → take (length input - n) (drop n input) ≡ drop n input
@@ -44,12 +17,12 @@ part-rest n input = take_all (length input - n) (drop n input) (omega (arith, le
 
 -- what a refused reading says of its sheet
 pub unread :
-    (sheet lent lent' : List ℕ) (r : Reading) (why : Refusal) → r ≡ reading-variants.Refused why → Reads sheet lent r lent'
+    (sheet lent lent' : List ℕ) (r : Result Header Refusal) (why : Refusal) → r ≡ Err why → Reads sheet lent r lent'
     → ((reading r).number ≡ read_refusal sheet (length lent)) × (eqb (read_refusal sheet (length lent)) 0 ≡ false)
 unfolding reading read_of
 unread sheet lent lent' r why e h = (
   ap (λ (x : Left). x.answer.number) h,
-  by (eqb (read_refusal sheet (length lent)) 0) (sym (ap (λ (x : Reading). (reading x).values) e) ∙ ap (λ (x : Left). x.answer.values) h),
+  by (eqb (read_refusal sheet (length lent)) 0) (sym (ap (λ (x : Result Header Refusal). (reading x).values) e) ∙ ap (λ (x : Left). x.answer.values) h),
 )
   where
     by : (b : Bool) → [] ≡ cond b (signals_in sheet ∷ count_in sheet ∷ []) [] → b ≡ false
@@ -63,7 +36,7 @@ pub record Readable (sheet lent lent' : List ℕ) (s n : ℕ) : Type 0 where
   pub count : n ≡ count_in sheet
   pub nodes : take n lent' ≡ nodes_in sheet
 
-pub readable : (sheet lent lent' : List ℕ) (r : Reading) (s n : ℕ) → r ≡ reading-variants.Accepted s n → Reads sheet lent r lent' → Readable sheet lent lent' s n
+pub readable : (sheet lent lent' : List ℕ) (r : Result Header Refusal) (s n : ℕ) → r ≡ Ok (record { s = s; nodes = n }) → Reads sheet lent r lent' → Readable sheet lent lent' s n
 unfolding reading read_of
 readable sheet lent lent' r s n e h =
     let answer : reading r ≡ record { number = 0; values = s ∷ n ∷ [] } = ap reading e in

@@ -1,20 +1,12 @@
 -- The trace of a run that ended refuted: a trace call on its rows is accepted, and 1,024 letters are room for it.
-use Prim.Native.Nat.{ℕ, zero, suc, ◌≤◌}
-use mathlib.Core.Path.{◌≡◌, sym, ap, ◌∙◌}
-use mathlib.Core.Bool.{Bool, true, false}
-use mathlib.Core.List.{List, [], ◌∷◌, ◌++◌}
-use native.Mathlib.Nat.{le_trans}
-use native.Mathlib.Omega.{arith}
-use lib.Dec.{eqb}
-use lib.ListN.{length, get_or, length-append}
+use Rattle.std.proofs.Common.{Result, Ok, Err, ℕ, zero, suc, ◌≤◌, ◌≡◌, sym, ap, ◌∙◌, Bool, true, false, List, [], ◌∷◌, ◌++◌, le_trans, arith, eqb, length, get_or, length-append}
 use Rattle.effect.specs.Refusals.{front}
 use Rattle.goals.specs.declared.Row.{Row}
 use Rattle.goals.specs.declared.Run.{Run}
 use Rattle.goals.specs.Goals.{row_zero}
 use Rattle.goals.specs.Run.{State, word_in, trace_of}
 use Rattle.goals.specs.Refusals.{Given, record_of, against, start_refusal, trace_refusal, Leaves, leaves}
-use Rattle.columns.specs.declared.Tracing.{Tracing}
-use Rattle.columns.specs.declared.Tracing.TheVariants as tracing-variants
+use Rattle.goals.specs.declared.SideRefusal.{SideRefusal}
 use Rattle.columns.proofs.Tables as core
 use Rattle.columns.specs.Calls.{Columns, lent_in, state_of, tracing}
 use Rattle.columns.proofs.Budget.{state-held}
@@ -39,15 +31,15 @@ pub trace-short : (g : Given) → start_refusal g 1024 ≡ against 0 0 → lengt
 trace-short g starts = le_trans (word-short (ended_on g).rows (ended_on g).settled (ended_on g).settled) (ended-settled g starts)
 
 -- an answer that tells a number is an accepted one
-tells : (answer : Tracing) (n : ℕ) → (tracing answer).values ≡ n ∷ [] → answer ≡ tracing-variants.Accepted n
+tells : (answer : Result ℕ SideRefusal) (n : ℕ) → (tracing answer).values ≡ n ∷ [] → answer ≡ Ok n
 unfolding tracing
-tells (tracing-variants.Accepted m) n h = ap tracing-variants.Accepted (ap (λ (v : List ℕ). get_or v 0 0) h)
-tells (tracing-variants.Refused why) n h = absurd (omega (arith, ap length h))
+tells (Ok m) n h = ap Ok (ap (λ (v : List ℕ). get_or v 0 0) h)
+tells (Err why) n h = absurd (omega (arith, ap length h))
 
 -- a trace call on the rows and the record of the run that ended
-pub trace-ended : (g : Given) (c : Columns) (r : Run) (answer : Tracing) (out out' : List ℕ) → Ended g c r → r.outcome ≡ 2 → length out ≡ 1024
+pub trace-ended : (g : Given) (c : Columns) (r : Run) (answer : Result ℕ SideRefusal) (out out' : List ℕ) → Ended g c r → r.outcome ≡ 2 → length out ≡ 1024
     → core.TracesOf g 1024 c r out answer out'
-    → (answer ≡ tracing-variants.Accepted (length (trace_in g))) × (out' ≡ front (trace_in g) out) × (length (trace_in g) ≤ 1024)
+    → (answer ≡ Ok (length (trace_in g))) × (out' ≡ front (trace_in g) out) × (length (trace_in g) ≤ 1024)
 trace-ended g c r answer out out' e two size h = (tells answer (length (trace_in g)) done.2, done.1, short)
   where
     short : length (trace_in g) ≤ 1024

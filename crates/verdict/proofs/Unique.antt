@@ -1,7 +1,5 @@
 -- Any two results that meet the promise of `verdict` are equal.
-use Prim.Native.Nat.{ℕ}
-use mathlib.Core.Path.{◌≡◌, sym, ◌∙◌}
-use mathlib.Core.List.{List}
+use Rattle.std.proofs.Common.{ℕ, ◌≡◌, sym, ◌∙◌, List}
 use Rattle.verdict.specs.declared.Lines.{Lines}
 use Rattle.verdict.specs.Prints.{Prints}
 

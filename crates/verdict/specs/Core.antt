@@ -1,22 +1,27 @@
 -- What the functions under `verdict` promise each other.
-use Rattle.std.specs.Prelude.{ℕ, ◌+◌, ◌≡◌, cond, List, ◌++◌, eqb, length, take}
+use Rattle.std.specs.Prelude.{ℕ, ◌+◌, ◌≡◌, cond, List, ◌++◌, eqb, length, take, replicate, Result}
 use Rattle.effect.specs.Refusals.{front}
-use Rattle.sheet.specs.declared.Reading.{Reading}
+use Rattle.effect.specs.declared.Refusal.{Refusal}
+use Rattle.sheet.specs.declared.Header.{Header}
 use Rattle.sheet.specs.Sheet.{reading}
 use Rattle.goals.specs.declared.Run.{Run}
+use Rattle.goals.specs.declared.SideRefusal.{SideRefusal}
 use Rattle.goals.specs.Refusals.{Given, record_of, start_refusal, against, leaves, exit, values_of}
-use Rattle.columns.specs.declared.Called.{Called}
 use Rattle.columns.specs.Calls.{Columns, called, put, lent_in}
 use Rattle.program.specs.Lines.{refused_line, ended_lines}
 use Rattle.program.specs.Program.{ended_on}
+use Rattle.verdict.specs.declared.Lines.{Lines}
 
--- a text put in the output from place `at` on, behind what stands there already, and the place behind it answered
-pub record Puts (text : List ℕ) (at : ℕ) (before : List ℕ) (r : ℕ) (after : List ℕ) : Type 0 where
-  pub next : r ≡ at + length text
-  pub bytes : after ≡ front (take at before ++ text) before
+-- an output with a text alone: it stands at the front, and zeros behind it
+abbrev pub of_text : List ℕ → Lines
+of_text text = record { bytes = front text (replicate 4096 0); len = length text }
+
+-- an output with a text put behind what stands there already
+abbrev pub with_text : List ℕ → Lines → Lines
+with_text text out = record { bytes = front (take out.len out.bytes ++ text) out.bytes; len = out.len + length text }
 
 -- start, and then a run call that ends the run
-abbrev pub Decides : Given → Columns → Called → Columns → Type 0
+abbrev pub Decides : Given → Columns → Result Run SideRefusal → Columns → Type 0
 Decides g c answer c' =
     let st = ended_on g in
     exit (called answer) c' ≡ leaves (start_refusal g 1024) (values_of (record_of st)) (put st.rows c) c
@@ -34,5 +39,5 @@ comparison_lines g =
     cond (eqb (start_refusal g 1024).number 0) (ended_lines (ended_on g)) (refused_line (start_refusal g 1024))
 
 -- the number of a reading's refusal
-abbrev pub reading_number : Reading → ℕ
+abbrev pub reading_number : Result Header Refusal → ℕ
 reading_number r = (reading r).number

@@ -1,30 +1,30 @@
 -- `columns::enter_goal`: the three cases of entering (`enters-known`, `enters-full`, `enters-next`).
-use mathlib.Core.Path.{◌≡◌, sym, ◌∙◌}
-use native.Mathlib.Omega.{arith}
-use Rattle.columns.specs.Calls.{columns, rows_in}
-use Rattle.columns.proofs.Laws.{known_some, enters-known, enters-full, enters-next}
-use Rattle.goals.specs.Goals.{known}
+use Rattle.std.proofs.Common.{◌≡◌, ◌+◌, false, sym, ap, subst, ◌∙◌}
+use Rattle.columns.specs.Calls.{Columns, rows_in}
+use Rattle.columns.specs.Tables.{of_table}
+use Rattle.columns.specs.Core.{Enters, entering}
+use Rattle.goals.specs.Goals.{known, enter}
+use Rattle.columns.proofs.Laws.{entered, enters-known, enters-full, enters-next}
 use Rattle.columns.proofs.enter_goal.Goals as goal
 use Rattle.columns.proofs.enter_goal.Goals.{After-is_known}
 
 -- whether a used row has the goal is what `is_known` answers
-asked : (c : After-is_known) → let a = c.args in known a.goal (rows_in (columns a.places.now a.sets.now a.parents.now a.letters.now) a.used) ≡ c.is_known.result
-asked c = let a = c.args in sym (known_some a.goal (columns a.places.now a.sets.now a.parents.now a.letters.now) a.used) ∙ sym c.is_known.ensures
+asked : (c : After-is_known) → let a = c.args in known a.goal (rows_in (of_table a.table.now) a.used) ≡ c.is_known.result
+asked c = let a = c.args in ap (λ x. known a.goal (rows_in x a.used)) (sym c.view.ensures.1) ∙ sym c.is_known.ensures
 
-pub is_known-requires : goal.is_known-requires
-is_known-requires c = (omega (arith, c.requires.used, c.requires.places), omega (arith, c.requires.used, c.requires.sets))
-
-pub returns-then-is_known : goal.returns-then-is_known
-returns-then-is_known c =
+pub returns-then-is_known-clause-entered : goal.returns-then-is_known-clause-entered
+returns-then-is_known-clause-entered c =
     let a = c.args in
-    enters-known (columns a.places.now a.sets.now a.parents.now a.letters.now) a.used a.room c.requires a.goal (asked (goal.at.returns-then-is_known c).After-is_known ∙ c.if-is_known.true)
+    enters-known (of_table a.table.now) a.used a.room c.requires a.goal (asked (goal.at.returns-then-is_known-clause-entered c).After-is_known ∙ c.if-is_known.true)
 
-pub returns-then-used-room : goal.returns-then-used-room
-returns-then-used-room c =
+pub returns-then-used-room-clause-entered : goal.returns-then-used-room-clause-entered
+returns-then-used-room-clause-entered c =
     let a = c.args in
-    enters-full (columns a.places.now a.sets.now a.parents.now a.letters.now) a.used a.room c.requires a.goal (asked (goal.at.returns-then-used-room c).After-is_known ∙ c.if-is_known.false) c.if-used-room.true
+    enters-full (of_table a.table.now) a.used a.room c.requires a.goal (asked (goal.at.returns-then-used-room-clause-entered c).After-is_known ∙ c.if-is_known.false) c.if-used-room.true
 
-pub returns : goal.returns
-returns c =
+pub returns-clause-entered : goal.returns-clause-entered
+returns-clause-entered c =
     let a = c.args in
-    enters-next (columns a.places.now a.sets.now a.parents.now a.letters.now) a.used a.room c.requires a.goal (asked (goal.at.returns c).After-is_known ∙ c.if-is_known.false) c.if-used-room.false
+    let before = of_table a.table.now in
+    subst (λ (x : Columns). Enters before x (enter a.room a.goal (entering (rows_in before a.used))) (entered (a.used + 1) false)) (sym c.set.ensures.row)
+    (enters-next before a.used a.room c.requires a.goal (asked (goal.at.returns-clause-entered c).After-is_known ∙ c.if-is_known.false) c.if-used-room.false)

@@ -1,18 +1,14 @@
 -- `columns::put_trace`. The loop keeps: the way to row i at the front of the buffer is the whole way at the front of the buffer as it was lent.
 use Prim.Native.Nat.{ℕ, suc, ◌<◌}
-use mathlib.Core.Path.{◌≡◌, refl, sym, ap, ◌∙◌}
+use mathlib.Core.Path.{◌≡◌, sym, ap, ◌∙◌}
 use mathlib.Core.List.{List}
 use native.Mathlib.Omega.{arith}
 use lib.ListN.{length, get_or, length-set}
-use borrow.Author.Rules.{rules}
 use Rattle.effect.specs.Refusals.{front}
 use Rattle.columns.specs.Core.{climb}
 use Rattle.columns.proofs.Climbing.{climb-end, parent-below, climb-longer, front-climb}
 use Rattle.columns.proofs.put_trace.Goals as goal
 use Rattle.columns.proofs.put_trace.Goals.{In-loop-i}
-
-pub loop-i-init : goal.loop-i-init
-loop-i-init c = (search rules, search rules, search rules, refl, refl)
 
 longer : (c : In-loop-i) → let a = c.args in let i = c.loop-i.i in let p = get_or a.parents.now i 0 in
     length (climb a.parents.now a.letters.now i i) ≡ suc (length (climb a.parents.now a.letters.now p p))
@@ -22,23 +18,14 @@ longer c =
 pub overflow_sub-k : goal.overflow_sub-k
 overflow_sub-k c = omega (arith, longer c)
 
-pub overflow_cast-out : goal.overflow_cast-out
-overflow_cast-out c = omega (arith, c.requires.bytes c.loop-i.i c.loop-i.invariant.0)
-
 pub bounds-out-k : goal.bounds-out-k
 bounds-out-k c = omega (arith, longer (goal.at.bounds-out-k c).In-loop-i)
-
-pub overflow_cast-i : goal.overflow_cast-i
-overflow_cast-i c = omega (arith, c.shared_slice_known-in-loop-i-1.given c.loop-i.i)
 
 below : (c : In-loop-i) → get_or c.args.parents.now c.loop-i.i 0 < c.loop-i.i
 below c =
     parent-below
     c.args.parents.now _ c.loop-i.i c.requires.rows.3 c.loop-i.invariant.0
     c.loop-i-test.true
-
-pub loop-i-smaller : goal.loop-i-smaller
-loop-i-smaller c = below (goal.at.loop-i-smaller c).In-loop-i
 
 pub loop-i-preserved : goal.loop-i-preserved
 loop-i-preserved c = (

@@ -3,36 +3,29 @@ use mathlib.Core.Bool.{Bool, ◌||◌}
 use mathlib.Core.Path.{ap, ap₂}
 use lib.Dec.{eqb}
 use borrow.Author.Tests.{eq-eqb, ne_eqb}
-use Rattle.columns.specs.Calls.{columns}
-use Rattle.columns.proofs.Budget.{run-stays, run-goes, run-ready}
+use Rattle.columns.specs.Tables.{of_table}
+use Rattle.columns.proofs.Budget.{run-stays, run-goes}
 use Rattle.columns.proofs.run_sides.Goals as goal
 
-pub returns-then-held-eq1 : goal.returns-then-held-eq1
-returns-then-held-eq1 c =
+pub returns-then-held-clause-steps : goal.returns-then-held-clause-steps
+returns-then-held-clause-steps c =
     let a = c.args in
     run-stays
-    (columns a.places.now a.sets.now a.parents.now a.letters.now) a.room a.left a.right a.held c.requires
-    a.budget (ap (λ (b : Bool). b || eqb a.held.outcome 2) (eq-eqb _ _ c.if-held-eq1.true))
+    (of_table a.table.now) a.room a.left a.right a.held c.requires
+    a.budget (ap (λ (b : Bool). b || eqb a.held.outcome 2) (eq-eqb _ _ c.if-held.true))
 
-pub returns-then-held-eq2 : goal.returns-then-held-eq2
-returns-then-held-eq2 c =
+pub returns-then-held-2-clause-steps : goal.returns-then-held-2-clause-steps
+returns-then-held-2-clause-steps c =
     let a = c.args in
     run-stays
-    (columns a.places.now a.sets.now a.parents.now a.letters.now) a.room a.left a.right a.held c.requires
-    a.budget (ap₂ ◌||◌ (ne_eqb _ _ c.if-held-eq1.false) (eq-eqb _ _ c.if-held-eq2.true))
+    (of_table a.table.now) a.room a.left a.right a.held c.requires
+    a.budget (ap₂ ◌||◌ (ne_eqb _ _ c.if-held.false) (eq-eqb _ _ c.if-held-2.true))
 
-pub steps_on-requires : goal.steps_on-requires
-steps_on-requires c =
-    let a = c.args in
-    run-ready
-    (columns a.places.now a.sets.now a.parents.now a.letters.now) a.room a.left a.right a.held c.requires
-    c.letters_of-ls.result c.letters_of-ls.ensures c.if-held-eq1.false
-
-pub returns : goal.returns
-returns c =
+pub returns-clause-steps : goal.returns-clause-steps
+returns-clause-steps c =
     let e = c.steps_on in
     let a = c.args in
     run-goes
-    (columns a.places.now a.sets.now a.parents.now a.letters.now) a.room a.left a.right a.held c.requires
-    a.budget (columns e.new.places e.new.sets e.new.parents e.new.letters) e.result c.if-held-eq1.false
-    c.if-held-eq2.false e.ensures
+    (of_table a.table.now) a.room a.left a.right a.held c.requires
+    a.budget (of_table e.new.table) e.result c.if-held.false c.if-held-2.false
+    (rw c.sides_of-sides.ensures at e.ensures.steps)

@@ -4,16 +4,9 @@ use mathlib.Core.Path.{ap}
 use mathlib.Core.List.{[]}
 use native.Mathlib.Omega.{arith}
 use lib.ListN.{length, get_or}
-use borrow.Author.Rules.{rules}
 use Rattle.columns.proofs.Climbing.{climb-end, parent-below, climb-short, climb-longer}
 use Rattle.columns.proofs.trace_length.Goals as goal
 use Rattle.columns.proofs.trace_length.Goals.{In-loop-i}
-
-pub loop-i-init : goal.loop-i-init
-loop-i-init c = (search rules, omega arith)
-
-pub overflow_cast-i : goal.overflow_cast-i
-overflow_cast-i c = omega (arith, c.shared_slice_known-1.given c.loop-i.i)
 
 pub overflow_add-n : goal.overflow_add-n
 overflow_add-n c =
@@ -25,9 +18,6 @@ below c =
     parent-below
     c.args.parents.now _ c.loop-i.i c.requires.3 c.loop-i.invariant.0
     c.loop-i-test.true
-
-pub loop-i-smaller : goal.loop-i-smaller
-loop-i-smaller c = below (goal.at.loop-i-smaller c).In-loop-i
 
 pub loop-i-preserved : goal.loop-i-preserved
 loop-i-preserved c =

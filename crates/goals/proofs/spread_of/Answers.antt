@@ -1,21 +1,15 @@
 -- `goals::spread_of`. The loop keeps what follows the members below n.
-use mathlib.Core.Path.{refl, ap, ap₂, ◌∙◌}
-use native.Mathlib.Numerals.{add-one}
-use native.Mathlib.Omega.{arith}
-use lib.Bits.{bit_or}
-use borrow.Author.Rules.{rules}
-use Rattle.goals.proofs.Laws.{spread_in, spread-in}
+use Rattle.std.proofs.Common.{arith, refl, add-one}
+use Rattle.std.proofs.lemmas.Bool.Decides.{nat_tests}
+use Rattle.std.proofs.lemmas.Grind.{common_steps}
+use Rattle.std.specs.Int.Bits.{or_zero_r}
+use Rattle.places.specs.Readings.{spread_to}
 use Rattle.goals.proofs.spread_of.Goals as goal
 
 pub loop-n-init : goal.loop-n-init
-unfolding spread_in
-loop-n-init c = (search rules, refl)
+unfolding spread_to
+loop-n-init c = refl
 
 pub loop-n-preserved : goal.loop-n-preserved
-unfolding spread_in
-loop-n-preserved c = (search rules, rw add-one (ap₂ bit_or c.loop-n.invariant.1 c.followers_if-r.ensures))
-
-pub returns : goal.returns
-returns c =
-    let a = c.args in
-    c.loop-n.invariant.1 ∙ ap (spread_in a.side.follow a.set) (omega arith) ∙ spread-in a.side a.set 64
+unfolding spread_to
+loop-n-preserved c = rw add-one (grind (arith, nat_tests, common_steps, or_zero_r))

@@ -1,14 +1,15 @@
 -- `places::prepare`: the two answers of the check.
-use mathlib.Core.Path.{sym, ap, ◌∙◌}
-use Rattle.effect.specs.Refusals.{checked}
+use Rattle.std.proofs.lemmas.Result.{err_from_is_err_and}
 use Rattle.places.proofs.Made.{accepted-formed, prepare-refused, prepare-accepted}
 use Rattle.places.proofs.prepare.Goals as goal
 
-pub side_of-side-requires : goal.side_of-side-requires
-side_of-side-requires c = accepted-formed _ _ _ (ap checked (sym c.in-Accepted.is) ∙ c.check.ensures)
+pub returns-in_err-check : goal.returns-in_err-check
+returns-in_err-check c =
+    let p = err_from_is_err_and c.from_residual.result c.from_residual.ensures.1 in
+    rw (p.1, p.2) (prepare-refused _ _ _ c.in_err-check.ensures)
 
-pub returns-in-Refused : goal.returns-in-Refused
-returns-in-Refused c = prepare-refused _ _ _ _ (ap checked (sym c.in-Refused.is) ∙ c.check.ensures) c.no_side-side.ensures
+pub side_of-requires : goal.side_of-requires
+side_of-requires c = accepted-formed _ _ _ c.in_ok-check.ensures
 
-pub returns-in-Accepted : goal.returns-in-Accepted
-returns-in-Accepted c = prepare-accepted _ _ _ _ (ap checked (sym c.in-Accepted.is) ∙ c.check.ensures) c.side_of-side.ensures
+pub returns : goal.returns
+returns c = prepare-accepted _ _ _ _ c.in_ok-check.ensures c.side_of.ensures

@@ -2,7 +2,7 @@
 use mathlib.Core.Path.{ap, ◌∙◌}
 use native.Mathlib.Omega.{arith}
 use Rattle.sheet.specs.Sheet.{sheet_length, count_in}
-use Rattle.sheet.proofs.Header.{read-lt}
+use Rattle.sheet.proofs.Heading.{read-lt}
 use Rattle.sheet.proofs.length_by_header.Goals as goal
 
 pub length_of-requires : goal.length_of-requires

@@ -1,16 +1,17 @@
 -- `sheet::refusal_of`: each case of a reading has the definition's number.
-use mathlib.Core.Path.{◌≡◌, sym, ap}
-use Rattle.sheet.specs.declared.Reading.{Reading}
+use mathlib.Core.Path.{◌≡◌, refl}
+use Rattle.std.specs.Prelude.{Result, Ok, Err}
+use Rattle.std.specs.Result.{result_err}
+use Rattle.effect.specs.declared.Refusal.{Refusal}
+use Rattle.sheet.specs.declared.Header.{Header}
 use Rattle.sheet.specs.Sheet.{reading}
+use Rattle.sheet.specs.Promises.{number_if}
 use Rattle.sheet.proofs.refusal_of.Goals as goal
 
-known : (answer case : Reading) → answer ≡ case → (reading case).number ≡ (reading answer).number
-known answer case e = sym (ap (λ (x : Reading). (reading x).number) e)
-
-pub returns-in-Accepted : goal.returns-in-Accepted
+known : (answer : Result Header Refusal) → number_if (result_err answer) ≡ (reading answer).number
 unfolding reading
-returns-in-Accepted c = known _ _ c.in-Accepted.is
+known (Ok h) = refl
+known (Err r) = refl
 
-pub returns-in-Refused : goal.returns-in-Refused
-unfolding reading
-returns-in-Refused c = known _ _ c.in-Refused.is
+pub returns : goal.returns
+returns c = rw c.err.ensures.value (known c.args.answer)

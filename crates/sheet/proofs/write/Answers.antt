@@ -1,24 +1,20 @@
 -- What the check says decides: its refusal, or what is left of the sheet to be put.
-use mathlib.Core.Path.{sym, ap, ◌∙◌}
-use Rattle.effect.specs.Refusals.{checked}
-use Rattle.sheet.specs.Sheet.{writing}
+use Rattle.std.proofs.lemmas.Result.{err_from_is_err_and}
 use Rattle.sheet.proofs.Calls.{check-side, write-refused, write_checked}
 use Rattle.sheet.proofs.write.Goals as goal
 
-pub put_sheet-requires : goal.put_sheet-requires
-unfolding checked
-put_sheet-requires c =
+pub returns-in_err-check : goal.returns-in_err-check
+returns-in_err-check c =
     let a = c.args in
-    (check-side a.s a.nodes.now _ (ap checked (sym c.in-Accepted.is) ∙ c.check.ensures)).few
+    let p = err_from_is_err_and c.from_residual.result c.from_residual.ensures.1 in
+    rw (p.1, p.2) (write-refused a.s a.nodes.now a.out.now _ c.in_err-check.ensures)
 
-pub returns-in-Refused : goal.returns-in-Refused
-unfolding checked writing
-returns-in-Refused c =
+pub invariant_of-put : goal.invariant_of-put
+invariant_of-put c =
     let a = c.args in
-    write-refused a.s a.nodes.now a.out.now _ (ap checked (sym c.in-Refused.is) ∙ c.check.ensures)
+    record { few = (check-side a.s a.nodes.now _ c.in_ok-check.ensures).few }
 
-pub returns-in-Accepted : goal.returns-in-Accepted
-unfolding checked
-returns-in-Accepted c =
+pub returns : goal.returns
+returns c =
     let a = c.args in
-    write_checked a.s a.nodes.now a.out.now _ (ap checked (sym c.in-Accepted.is) ∙ c.check.ensures) _ c.put_sheet.ensures
+    write_checked a.s a.nodes.now a.out.now _ c.in_ok-check.ensures _ c.put.ensures
