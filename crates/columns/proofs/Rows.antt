@@ -1,12 +1,12 @@
 -- Rows and columns, one row after another: what the loops of `Table::take_rows` and `View::give_rows` keep.
-use Prim.Native.Nat.{ℕ, suc, ◌+◌, ◌≤◌, ◌<◌}
+use Prim.Native.Nat.{ℕ, zero, suc, ◌+◌, ◌≤◌, ◌<◌}
 use mathlib.Core.Path.{◌≡◌, refl, sym, ap, ap₂, subst, ◌∙◌}
 use mathlib.Core.Bool.{true, false}
-use mathlib.Core.List.{List, map}
+use mathlib.Core.List.{List, [], ◌∷◌, ◌++◌, map}
 use native.Mathlib.Numerals.{add-one}
 use native.Mathlib.Omega.{arith}
 use lib.ListN.{length, get_or, set, take, length-map}
-use lib.Seq.{take-suc, length-take-le}
+use lib.Seq.{take-suc, take-length, length-take-le}
 use Rattle.std.proofs.lemmas.List.{get_or-take}
 use Rattle.effect.specs.Refusals.{front}
 use Rattle.effect.proofs.Laws.{some_below_lem, or-none}
@@ -61,12 +61,16 @@ put-row-of c x y n i rows none h l a e f =
     ∙ put-row c i rows none (omega arith) a
     ∙ ap (λ (m : ℕ). put (take m rows) c) (sym (add-one i))
 
-pub given-next : (c : Columns) (i : ℕ) (rows : List Row) → i < length rows → set (front (rows_in c i) rows) i (row_at c i) ≡ front (rows_in c (suc i)) rows
+rows-front : (c : Columns) (items : List Row) (d : Row) (n : ℕ) → n ≤ length items → ((k : ℕ) → k < n → get_or items k d ≡ row_at c k) → take n items ≡ rows_in c n
 unfolding rows_in
-given-next c i rows h = front-next (rows_in c i) rows i (row_at c i) (length-rows_in c i) h
+rows-front c items d zero h e = refl
+rows-front c items d (suc n) h e =
+    take-suc items n d h ∙ ap₂ (λ (l : List Row) (w : Row). l ++ (w ∷ [])) (rows-front c items d n (omega arith) (λ k l. e k (omega arith))) (e n (omega arith))
 
-pub given-length : (c : Columns) (n : ℕ) (rows : List Row) → n ≤ length rows → length (front (rows_in c n) rows) ≡ length rows
-given-length c n rows h = length_front (rows_in c n) rows (omega (arith, length-rows_in c n))
+-- a list of n rows, each of which is the columns' row of its number
+pub rows-each : (c : Columns) (items : List Row) (d : Row) (n : ℕ) → length items ≡ n → ((k : ℕ) → k < n → get_or items k d ≡ row_at c k) → items ≡ rows_in c n
+rows-each c items d n size e =
+    sym (take-length items) ∙ ap (λ (m : ℕ). take m items) size ∙ rows-front c items d n (omega (arith, size)) e
 
 -- ---- looking for a goal, row after row
 pub known-none : (goal : Row) (c : Columns) → known goal (rows_in c 0) ≡ false

@@ -108,8 +108,8 @@ impl View<'_> {
         ensures { GivesRows n self.now.lent (of_view self.now) rows.old rows.new }
     {
         let n = n.min(self.rows()).min(rows.len());
-        for i in 0..n {
-            rows[i] = self.row(i);
+        for (i, row) in rows[..n].iter_mut().enumerate() {
+            *row = self.row(i);
         }
     }
 

@@ -7,11 +7,11 @@ use native.Mathlib.Omega.{arith}
 use lib.ListN.{length, get_or}
 use Rattle.effect.specs.Refusals.{Answer}
 use Rattle.effect.specs.declared.Refusal.{Refusal}
-use Rattle.effect.proofs.Numbers.{number-inj, number-positive}
-use Rattle.std.specs.Prelude.{Option, Some, None, Result, Ok, Err}
+use Rattle.effect.proofs.Numbers.{number-inj}
+use Rattle.std.specs.Prelude.{Option, Result, Ok, Err}
 use Rattle.sheet.specs.declared.Header.{Header}
 use Rattle.sheet.specs.Sheet.{Left, reading, writing, Reads, Writes}
-use Rattle.sheet.specs.Promises.{number_if, LengthByHeaderIs, RefusalOfIs}
+use Rattle.sheet.specs.Promises.{LengthByHeaderIs, RefusalOfIs}
 
 number_of : {a b : Answer} → a ≡ b → a.number ≡ b.number
 number_of e = ap (λ (t : Answer). t.number) e
@@ -49,12 +49,5 @@ write-one s ns out o o' r r' p q = let e = p ∙ sym q in (writing-one r r' (ans
 pub length-by-header-one : (sheet : List ℕ) (r r' : ℕ) → LengthByHeaderIs sheet r → LengthByHeaderIs sheet r' → r ≡ r'
 length-by-header-one sheet r r' e f = e ∙ sym f
 
--- the number tells every refusal from every other, and from none
-number-if-one : (r r' : Option Refusal) → number_if r ≡ number_if r' → r ≡ r'
-number-if-one None None e = refl
-number-if-one None (Some r) e = absurd (omega (arith, number-positive r))
-number-if-one (Some r) None e = absurd (omega (arith, number-positive r))
-number-if-one (Some r) (Some r') e = ap Some (number-inj r r' e)
-
-pub refusal-of-one : (answer : Result Header Refusal) (r r' : Option Refusal) → RefusalOfIs answer r → RefusalOfIs answer r' → r ≡ r'
-refusal-of-one answer r r' e f = number-if-one r r' (e ∙ sym f)
+pub refusal-of-one : (answer : Result Header ℕ) (r r' : Option ℕ) → RefusalOfIs answer r → RefusalOfIs answer r' → r ≡ r'
+refusal-of-one answer r r' e f = e ∙ sym f

@@ -114,8 +114,8 @@ pub fn read(sheet: &[u8], nodes: &mut [u32]) -> Result<Header, Refusal>
     Ok(header)
 }
 
-// The refusal of a reading, if it was refused.
-pub fn refusal_of(answer: Result<Header, Refusal>) -> Option<Refusal>
+// The number of a reading's refusal, if it was refused. Anybody may give any number.
+pub fn refusal_of(answer: Result<Header, u8>) -> Option<u8>
     ensures { RefusalOfIs answer result }
 {
     answer.err()

@@ -191,10 +191,11 @@ fn compared(ls: u8, left: &[u32], rs: u8, right: &[u32]) -> Lines
 }
 
 // The refusal of one side's sheet.
+#[tactic(auto, unfolding(sheet::specs::Sheet::reading))]
 fn unread(side: Which, reading: Result<Header, Refusal>) -> Lines
     ensures { result ≡ of_text (refused_line (against (side_number side) (reading_number reading))) }
 {
-    let number = sheet::refusal_of(reading).map_or(0, |refusal| refusal.number());
+    let number = reading.err().map_or(0, |refusal| refusal.number());
     refused(SideRefusal { side, number })
 }
 
