@@ -17,7 +17,7 @@ use Rattle.columns.specs.Calls.{Columns, row_at, rows_in, put, lent_in}
 use Rattle.columns.specs.declared.Table.{Table}
 use Rattle.columns.specs.declared.View.{View}
 use Rattle.columns.specs.Tables.{of_table, of_view, ViewIs, in_all, with_row}
-use Rattle.columns.proofs.Laws.{length-rows_in, map_snoc, columns-eq, known_some, known-snoc}
+use Rattle.columns.proofs.Laws.{map_snoc, columns-eq, known_some, known-snoc}
 
 module _ (f : Row → ℕ) (n : ℕ) (rows : List Row) (old : List ℕ) where
   head-length : n ≤ length rows → length (map f (take n rows)) ≡ n
@@ -26,7 +26,7 @@ module _ (f : Row → ℕ) (n : ℕ) (rows : List Row) (old : List ℕ) where
   pub column-length : n ≤ length rows → n ≤ length old → length (front (map f (take n rows)) old) ≡ length old
   column-length h k = length_front (map f (take n rows)) old (omega (arith, head-length h))
 
-  column-next : (none : Row) → n < length rows → n < length old
+  pub column-next : (none : Row) → n < length rows → n < length old
       → set (front (map f (take n rows)) old) n (f (get_or rows n none)) ≡ front (map f (take (suc n) rows)) old
   column-next none h k =
       front-next (map f (take n rows)) old n (f (get_or rows n none)) (head-length (omega arith)) k

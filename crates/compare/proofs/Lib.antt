@@ -1,4 +1,5 @@
 pub mod Core
+pub mod Laws
 pub mod Calling
 pub mod Loading
 pub mod Unique

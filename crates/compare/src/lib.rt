@@ -25,7 +25,7 @@ pub enum Work {
 fn used_within(used: u32, lent: usize) -> usize
     ensures { result ≡ min (room_of lent) used }
 {
-    goals::room_of(lent).min(used as usize)
+    goals::lesser(goals::room_of(lent), used as usize)
 }
 
 // How many rows are loaded: none for start; else those that the record says are used, and no more than the room has.

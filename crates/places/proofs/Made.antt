@@ -59,10 +59,13 @@ module _ (s : ℕ) (ns : List ℕ) (w : WellFormed s (decodings ns)) where
 
   -- the numbered table, as the survey leaves it
   pub skeleton-is : (sk : List Node) → length ns ≤ length sk → Numbers t (length ns) sk → take (length ns) sk ≡ numbered t
-  skeleton-is sk l h = ext_get_or Nil _ _ (size ∙ sym (numbered-length t ∙ table-length ns)) (λ i g. let q : i < length ns = rw size at g in get_or-take (length ns) sk i Nil q ∙ h i q ∙ sym (numbered-at t i))
+  skeleton-is sk l h = ext_get_or Nil _ _ same_length (λ i g. let q : i < length ns = rw size at g in get_or-take (length ns) sk i Nil q ∙ h i q ∙ sym (numbered-at t i))
     where
       size : length (take (length ns) sk) ≡ length ns
       size = length-take-le (length ns) sk l
+
+      same_length : length (take (length ns) sk) ≡ length (numbered t)
+      same_length = size ∙ sym (numbered-length t ∙ table-length ns)
 
   module _ (m : Masks) (x : Ends) (follow : List ℕ) (o : ℕ) (hm : Holds t (length ns) m) (hx : x ≡ ends_of (numbered t) (length ns - 1))
       (hf : follow ≡ linked_to (numbered t) (length (numbered t))) (ho : o ≡ cond x.empty 1 0) where

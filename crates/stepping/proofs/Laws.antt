@@ -15,7 +15,7 @@ use Rattle.goals.specs.declared.Row.{Row}
 use Rattle.goals.specs.Goals.{row, each_member, each_letter}
 use Rattle.stepping.specs.declared.Source.{Source}
 use Rattle.stepping.specs.declared.Cursor.{Cursor}
-use Rattle.stepping.specs.Next.{members_at, set_at, letters_in, lowest_from, lowest_member, at_letter, at_goal}
+use Rattle.stepping.specs.Next.{members_at, set_at, letters_in, lowest_from, lowest_member, at_letter, at_goal, taken}
 use Rattle.stepping.specs.Rest.{goals_with, goals_for, letters_from, all_goals, rest, rest_of}
 use Rattle.std.proofs.Common.{Option, Some, None, w64}
 use Rattle.std.proofs.Math.Nat.{eq-zero-or-pos}
@@ -181,6 +181,10 @@ module _ (S j : ℕ) (f : ℕ → Row) (here : Mem S j) (below : (k : ℕ) → k
 
 -- ---- the next goal, and what is to come after it
 module _ (src : Source) (c : Cursor) where
+  pub taken_none : c.members ≡ 0 → None ≡ taken src c
+  unfolding taken
+  taken_none z = rw (eq-eqb _ _ z)
+
   pub rest-goal : (j s : ℕ) → j < 64 → Mem c.members j → ((k : ℕ) → k < j → Mem c.members k → ⊥) → s ≡ single 64 j
       → rest_of src (Some (row j c.set src.parent c.letter, record { x = c.x; letter = c.letter; set = c.set; members = bit_xor c.members (bit_and c.members s) })) ≡ rest src c
   unfolding rest_of

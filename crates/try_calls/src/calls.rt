@@ -99,11 +99,12 @@ impl State {
         on: On,
         work: Work,
     ) -> io::Result<()> {
+        let answer = self.work(table, on, work);
         match work {
             Work::Start => print!(rt; "start")?,
             Work::Run(_) => print!(rt; "run")?,
         }
-        match self.work(table, on, work) {
+        match answer {
             Ok(()) => print::run(rt, self.run)?,
             Err(why) => print::refused(rt, why)?,
         }
@@ -123,7 +124,7 @@ impl State {
         };
         print!(rt; "trace")?;
         match answer {
-            Ok(length) => print!(rt; " length {length}")?,
+            Ok(length) => print::named(rt, " length ", length)?,
             Err(why) => print::refused(rt, why)?,
         }
         print!(rt; " out")?;

@@ -62,16 +62,36 @@ mod sheets;
 mod side;
 mod tables;
 
-use arrayvec::ArrayVec;
+ghost use Rattle.std.specs.Prelude.{IfOk, ◌≤◌, length};
+
 use fault::Fault;
 use std::io::{self, Read};
 
-// Hands a record's bytes to the part that its letter names.
-fn call(rt: &impl Print, letter: u8, record: &[u8]) -> Result<(), Fault> {
+// Reads until the room or the input ends, and says how many bytes there were. Each read asks for all that there is room for, and one that
+// fails, also since a signal interrupts it, is handed on.
+fn read_full(from: &mut impl Read, room: &mut [u8]) -> io::Result<usize>
+    ensures { IfOk result (λ n. n ≤ length room.new) }
+{
+    let mut n: usize = 0;
+    for _ in 0..room.len() {
+        let read = from.read(&mut room[n..])?;
+        if read == 0 {
+            return Ok(n);
+        }
+        n += read;
+    }
+    Ok(n)
+}
+
+// Hands a record's bytes to the part that its letter names. Not inlined, as what this holds would take up main's stack on every input
+// then.
+#[inline(never)]
+fn call(rt: &impl Print, letter: u8, digits: &[u8]) -> Result<(), Fault> {
+    let record = hex::bytes(digits).ok_or(Fault::NoRecord)?;
     match letter {
-        b's' => sheets::call(rt, record),
-        b'p' => tables::call(rt, record),
-        b'g' => record::call(rt, record),
+        b's' => sheets::call(rt, &record),
+        b'p' => tables::call(rt, &record),
+        b'g' => record::call(rt, &record),
         _ => Err(Fault::NoRecord),
     }
 }
@@ -85,10 +105,7 @@ fn answer(rt: &impl Print, line: &[u8]) -> Result<(), Fault> {
             println!(rt)?;
             Ok(())
         },
-        [letter, digits @ ..] => {
-            let record = hex::bytes(digits).ok_or(Fault::NoRecord)?;
-            call(rt, *letter, &record)
-        },
+        [letter, digits @ ..] => call(rt, *letter, digits),
     }
 }
 
@@ -101,9 +118,9 @@ fn answer_all(rt: &impl Print, input: &[u8]) -> Result<(), Fault> {
 }
 
 fn main(rt: HostRuntime) -> io::Result<()> {
-    let mut input = ArrayVec::<u8, 131072>::new();
-    io::copy(&mut rt.stdin().take(131072), &mut input)?;
-    match answer_all(&rt, &input) {
+    let mut input = [0; 131072];
+    let n = read_full(&mut rt.stdin(), &mut input)?;
+    match answer_all(&rt, &input[..n]) {
         Err(Fault::NoRecord) => println!(rt; "bad record"),
         Err(Fault::Io(why)) => Err(why),
         Ok(()) => Ok(()),

@@ -1,12 +1,30 @@
-// Pieces of an answer, written to standard output.
+// Pieces of an answer, written to standard output. Each piece, such as a name or the number behind it, is a write of its own: where
+// one fails, all that stood before it is written.
 use goals::{Run, SideRefusal, Which};
-use std::fmt::Radix;
+use std::fmt::{Display, Radix};
 use std::io;
 
+// A name, and x behind it.
+pub(crate) fn named(rt: &impl Print, name: &str, x: impl Display + Drop) -> io::Result<()> {
+    rt.write_all(name.as_bytes())?;
+    print!(rt; "{x}")
+}
+
+// The same with x in so many hexadecimal digits.
+pub(crate) fn digits<T: Copy + Radix>(
+    rt: &impl Print,
+    name: &str,
+    x: T,
+    width: usize,
+) -> io::Result<()> {
+    rt.write_all(name.as_bytes())?;
+    print!(rt; "{x:0width$x}")
+}
+
 // All of it, each in so many hexadecimal digits. Ends the line.
-pub(crate) fn hex<T: Copy + Radix>(rt: &impl Print, all: &[T], digits: usize) -> io::Result<()> {
+pub(crate) fn hex<T: Copy + Radix>(rt: &impl Print, all: &[T], width: usize) -> io::Result<()> {
     for x in all {
-        print!(rt; " {x:0digits$x}")?;
+        digits(rt, " ", *x, width)?;
     }
     println!(rt)
 }
@@ -17,7 +35,9 @@ pub(crate) fn run(rt: &impl Print, run: Run) -> io::Result<()> {
         used,
         outcome,
     } = run;
-    print!(rt; " settled {settled} used {used} outcome {outcome}")
+    named(rt, " settled ", settled)?;
+    named(rt, " used ", used)?;
+    named(rt, " outcome ", outcome)
 }
 
 fn name(side: Which) -> &'static str {
@@ -29,5 +49,6 @@ fn name(side: Which) -> &'static str {
 }
 
 pub(crate) fn refused(rt: &impl Print, why: SideRefusal) -> io::Result<()> {
-    print!(rt; " refused {} {}", name(why.side), why.number)
+    named(rt, " refused ", name(why.side))?;
+    named(rt, " ", why.number)
 }

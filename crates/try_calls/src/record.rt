@@ -9,7 +9,9 @@ use goals::Run;
 // As many rows as a column may have.
 const ROWS: usize = 65540;
 
-// Takes a record apart, its head of eight numbers, the nodes of both sides, and the calls, and makes these.
+// Takes a record apart, its head of eight numbers, the nodes of both sides, and the calls, and makes these. Not inlined, so that
+// no other record has its columns on the stack.
+#[inline(never)]
 fn parts(rt: &impl Print, numbers: &[u32]) -> Result<(), Fault> {
     let [first, second, high, low, p, s, q, x, rest @ ..] = numbers else {
         return Err(Fault::NoRecord);

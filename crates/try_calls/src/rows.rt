@@ -1,4 +1,5 @@
 // The columns of a table, row by row. A row may lie beyond the end of some column.
+use crate::print;
 use columns::Table;
 use goals::Row;
 use std::ops::Range;
@@ -22,7 +23,7 @@ impl fmt::Display for Set {
 // A row's number in a column; '-' where the column has no such row.
 fn show_entry(rt: &impl Print, x: Option<impl fmt::Display + Drop>) -> io::Result<()> {
     match x {
-        Some(x) => print!(rt; " {x}"),
+        Some(x) => print::named(rt, " ", x),
         None => print!(rt; " -"),
     }
 }
@@ -54,7 +55,8 @@ pub(crate) fn before(table: &Table<'_>, i: usize) -> Row {
 }
 
 fn show_row(rt: &impl Print, table: &Table<'_>, i: usize) -> io::Result<()> {
-    print!(rt; "row {i}:")?;
+    print::named(rt, "row ", i)?;
+    print!(rt; ":")?;
     show_entry(rt, table.places.get(i))?;
     show_entry(rt, table.sets.get(i).map(|set| Set(*set)))?;
     show_entry(rt, table.parents.get(i))?;

@@ -9,8 +9,8 @@ use std::io;
 // What a call answered, if it is one thing, or why it refused.
 fn show(rt: &impl Print, answer: Result<impl Display + Drop, Refusal>) -> io::Result<()> {
     match answer {
-        Ok(x) => print!(rt; " accepted {x}"),
-        Err(why) => print!(rt; " refused {}", why.number()),
+        Ok(x) => print::named(rt, " accepted ", x),
+        Err(why) => print::named(rt, " refused ", why.number()),
     }
 }
 
@@ -22,8 +22,11 @@ fn read(rt: &impl Print, sheet: &[u8], table: &mut [u32]) -> io::Result<()> {
     let answer = sheet::read(sheet, table);
     print!(rt; "read")?;
     match answer {
-        Ok(Header { s, nodes }) => print!(rt; " accepted {s} {nodes}")?,
-        Err(why) => print!(rt; " refused {}", why.number())?,
+        Ok(Header { s, nodes }) => {
+            print::named(rt, " accepted ", s)?;
+            print::named(rt, " ", nodes)?;
+        }
+        Err(why) => print::named(rt, " refused ", why.number())?,
     }
     print!(rt; " table")?;
     print::hex(rt, table, 8)
@@ -38,8 +41,9 @@ fn write(rt: &impl Print, s: u8, nodes: &[u32], sheet: &mut [u8]) -> io::Result<
 }
 
 fn check(rt: &impl Print, s: u8, nodes: &[u32]) -> io::Result<()> {
+    let answer = effect::check(s, nodes);
     print!(rt; "check")?;
-    show(rt, effect::check(s, nodes))?;
+    show(rt, answer)?;
     println!(rt)
 }
 
@@ -58,19 +62,27 @@ fn fields(node: Node) -> (u8, u16, u16) {
 // Ends the line.
 fn number(rt: &impl Print, node: Node) -> io::Result<()> {
     match effect::number(node) {
-        Some(x) => println!(rt; "number {x:08x}"),
-        None => println!(rt; "number none"),
+        Some(x) => print::digits(rt, " ", x, 8)?,
+        None => print!(rt; " none")?,
     }
+    println!(rt)
 }
 
 fn decode(rt: &impl Print, x: u32) -> io::Result<()> {
+    print!(rt; "decode")?;
     match effect::decode(x) {
         Some(node) => {
             let (kind, a, b) = fields(node);
-            print!(rt; "decode {kind} {a} {b} ")?;
+            print::named(rt, " ", kind)?;
+            print::named(rt, " ", a)?;
+            print::named(rt, " ", b)?;
+            print!(rt; " number")?;
             number(rt, node)
         }
-        None => println!(rt; "decode none"),
+        None => {
+            print!(rt; " none")?;
+            println!(rt)
+        }
     }
 }
 
@@ -113,7 +125,10 @@ pub(crate) fn call(rt: &impl Print, record: &[u8]) -> Result<(), Fault> {
             check(rt, *s, &nodes)?;
         }
         [3, a, b, c, d] => decode(rt, u32::from_be_bytes([*a, *b, *c, *d]))?,
-        [4, kind, a1, a0, b1, b0] => number(rt, node_of(*kind, pair(*a1, *a0), pair(*b1, *b0)))?,
+        [4, kind, a1, a0, b1, b0] => {
+            print!(rt; "number")?;
+            number(rt, node_of(*kind, pair(*a1, *a0), pair(*b1, *b0)))?;
+        }
         _ => return Err(Fault::NoRecord),
     }
     Ok(())

@@ -1,4 +1,5 @@
 // A side in print: all that it holds.
+use crate::print;
 use places::Side;
 use std::io;
 
@@ -12,14 +13,23 @@ fn show_head(rt: &impl Print, side: &Side) -> io::Result<()> {
     } = side;
     let empty = accepts % 2;
     let first = follow[0];
-    println!(rt; "s {s} places {count} empty {empty} accepts {accepts:016x} first {first:016x}")
+    print::named(rt, "s ", s)?;
+    print::named(rt, " places ", count)?;
+    print::named(rt, " empty ", empty)?;
+    print::digits(rt, " accepts ", *accepts, 16)?;
+    print::digits(rt, " first ", first, 16)?;
+    println!(rt)
 }
 
 fn show_places(rt: &impl Print, side: &Side) -> io::Result<()> {
     let masks = side.present.iter().zip(side.absent.iter());
     let entries = masks.zip(side.follow.iter()).enumerate();
     for (j, ((present, absent), follow)) in entries.skip(1).take(side.count as usize) {
-        println!(rt; "place {j} present {present:04x} absent {absent:04x} follow {follow:016x}")?;
+        print::named(rt, "place ", j)?;
+        print::digits(rt, " present ", *present, 4)?;
+        print::digits(rt, " absent ", *absent, 4)?;
+        print::digits(rt, " follow ", *follow, 16)?;
+        println!(rt)?;
     }
     Ok(())
 }
@@ -38,5 +48,6 @@ fn rest(side: &Side) -> u64 {
 pub(crate) fn show(rt: &impl Print, side: &Side) -> io::Result<()> {
     show_head(rt, side)?;
     show_places(rt, side)?;
-    println!(rt; "rest {:016x}", rest(side))
+    print::digits(rt, "rest ", rest(side), 16)?;
+    println!(rt)
 }

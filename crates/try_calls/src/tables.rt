@@ -1,6 +1,6 @@
 // A record's call on a node table, and its answer in print.
 use crate::fault::Fault;
-use crate::{hex, side};
+use crate::{hex, print, side};
 use effect::Refusal;
 use places::Side;
 use std::io;
@@ -8,7 +8,8 @@ use std::io;
 // With a refusal the side of nothing is printed too, which is all zeros.
 fn show_side(rt: &impl Print, answer: Result<Side, Refusal>) -> io::Result<()> {
     if let Err(why) = answer {
-        println!(rt; "refused {}", why.number())?;
+        print::named(rt, "refused ", why.number())?;
+        println!(rt)?;
     }
     side::show(rt, &answer.unwrap_or(places::no_side()))
 }
@@ -17,7 +18,7 @@ fn show_side(rt: &impl Print, answer: Result<Side, Refusal>) -> io::Result<()> {
 fn show_letters(rt: &impl Print, side: Side) -> io::Result<()> {
     let naming = places::naming_of(side);
     for x in 0..1 << side.s.min(8) {
-        print!(rt; " {:016x}", places::matching(naming, side.s, x))?;
+        print::digits(rt, " ", places::matching(naming, side.s, x), 16)?;
     }
     Ok(())
 }
@@ -26,7 +27,7 @@ fn show_matching(rt: &impl Print, answer: Result<Side, Refusal>) -> io::Result<(
     print!(rt; "matching")?;
     match answer {
         Ok(side) => show_letters(rt, side)?,
-        Err(why) => print!(rt; " refused {}", why.number())?,
+        Err(why) => print::named(rt, " refused ", why.number())?,
     }
     println!(rt)
 }

@@ -8,8 +8,8 @@ use Rattle.columns.specs.Calls.{Columns, tracing}
 use Rattle.program.specs.Lines.{outcome_line, counts_line, trace_line, refused_line, ended_lines}
 use Rattle.program.specs.Program.{ended_on, trace_in}
 use Rattle.verdict.specs.declared.Lines.{Lines}
-use Rattle.verdict.specs.Core.{of_text, with_text, Ended, comparison_lines}
-use Rattle.verdict.proofs.Laws.{nothing, both_texts, whole_text}
+use Rattle.verdict.specs.Core.{with_text, Ended, comparison_lines}
+use Rattle.verdict.proofs.Laws.{both_texts, same_text}
 use Rattle.program.proofs.Running.{ended-fits, ended-settled}
 use Rattle.verdict.proofs.Tracing.{trace-ended}
 
@@ -33,29 +33,28 @@ ended-outcome g c r e = ap (λ (x : Run). x.outcome) e.now
 
 -- a run that is not refuted has no line 3
 pub lines_two :
-    (g : Given) (c : Columns) (r : Run) (before o p : Lines) → Ended g c r → r.outcome ≢ 2 → before ≡ of_text []
+    (g : Given) (c : Columns) (r : Run) (before o p : Lines) → Ended g c r → r.outcome ≢ 2 → before.len ≤ length before.bytes
     → o ≡ with_text (outcome_line r.outcome) before → p ≡ with_text (counts_line r.settled r.used) o
-    → p ≡ of_text (ended_lines (ended_on g))
+    → p ≡ with_text (ended_lines (ended_on g)) before
 unfolding ended_lines
 lines_two g c r before o p e h n a b =
-    whole_text (two_lines r) before p n (both_texts _ _ before o p (nothing before n) a b)
-    ∙ ap of_text
+    same_text (two_lines r) (ended_lines (ended_on g)) before p
     (ended-two g c r e
     ∙ sym (ap (λ (b : Bool). two_lines (record_of (ended_on g)) ++ cond b (trace_line (trace_in g)) []) (ne_eqb _ _ (λ z. h (ended-outcome g c r e ∙ z)))
     ∙ append-nil (two_lines (record_of (ended_on g)))))
+    (both_texts _ _ before o p n a b)
 
 -- a refuted one has
 pub lines-three :
-    (g : Given) (c : Columns) (r : Run) (before o p q : Lines) → Ended g c r → r.outcome ≡ 2 → before ≡ of_text []
+    (g : Given) (c : Columns) (r : Run) (before o p q : Lines) → Ended g c r → r.outcome ≡ 2 → before.len ≤ length before.bytes
     → o ≡ with_text (outcome_line r.outcome) before → p ≡ with_text (counts_line r.settled r.used) o
-    → q ≡ with_text (trace_line (trace_in g)) p → q ≡ of_text (ended_lines (ended_on g))
+    → q ≡ with_text (trace_line (trace_in g)) p → q ≡ with_text (ended_lines (ended_on g)) before
 unfolding ended_lines
 lines-three g c r before o p q e h n a b t =
-    whole_text (two_lines r ++ trace_line (trace_in g)) before q n
-    (both_texts _ _ before p q (nothing before n) (both_texts _ _ before o p (nothing before n) a b) t)
-    ∙ ap of_text
+    same_text (two_lines r ++ trace_line (trace_in g)) (ended_lines (ended_on g)) before q
     (ap (λ (x : List ℕ). x ++ trace_line (trace_in g)) (ended-two g c r e)
     ∙ sym (ap (λ (b : Bool). two_lines (record_of (ended_on g)) ++ cond b (trace_line (trace_in g)) []) (eq-eqb _ _ (sym (ended-outcome g c r e) ∙ h))))
+    (both_texts _ _ before p q n (both_texts _ _ before o p n a b) t)
 
 -- the letters that the trace call of a refuted run answers
 pub record Lettered (g : Given) (n : ℕ) (word : List ℕ) : Type 0 where

@@ -45,9 +45,10 @@ impl Lines {
         requires { self.old.len + length text.now ≤ 4096 }
         ensures { self.new ≡ with_text text.now self.old }
     {
-        let end = self.len + text.len();
-        self.bytes[self.len..end].copy_from_slice(text);
-        self.len = end;
+        for byte in text {
+            self.bytes[self.len] = *byte;
+            self.len += 1;
+        }
     }
 
     // A number in decimal.
@@ -133,7 +134,8 @@ impl Lines {
     }
 }
 
-// The one line of a refusal.
+// The one line of a refusal. Not inlined, so that a comparison has no second output on the stack.
+#[inline(never)]
 #[tactic(auto, using(crate::proofs::Laws::texts))]
 fn refused(why: SideRefusal) -> Lines
     ensures { result ≡ of_text (refused_line (against_of why)) }
@@ -157,7 +159,8 @@ fn decide(asked: Asked, table: &mut Table<'_>) -> Result<Run, SideRefusal>
     run_on(asked, table, held, STEPS)
 }
 
-// The lines of a comparison of two node tables.
+// The lines of a comparison of two node tables. Not inlined, so that an input that is refused has no columns on the stack.
+#[inline(never)]
 fn compared(ls: u8, left: &[u32], rs: u8, right: &[u32]) -> Lines
     ensures { result ≡ of_text (comparison_lines (given ls left.now rs right.now)) }
 {
@@ -195,7 +198,7 @@ fn compared(ls: u8, left: &[u32], rs: u8, right: &[u32]) -> Lines
 fn unread(side: Which, reading: Result<Header, Refusal>) -> Lines
     ensures { result ≡ of_text (refused_line (against (side_number side) (reading_number reading))) }
 {
-    let number = reading.err().map_or(0, |refusal| refusal.number());
+    let number = sheet::refusal_of(reading.map_err(|refusal| refusal.number())).unwrap_or(0);
     refused(SideRefusal { side, number })
 }
 
@@ -203,7 +206,7 @@ fn unread(side: Which, reading: Result<Header, Refusal>) -> Lines
 pub fn verdict(input: &[u8]) -> Lines
     ensures { Prints input.now result }
 {
-    let end = sheet::length_by_header(input).min(input.len());
+    let end = goals::lesser(sheet::length_by_header(input), input.len());
     let mut left = [0; 255];
     let on_left = sheet::read(&input[..end], &mut left);
     let Ok(Header { s: ls, nodes: n }) = on_left else {

@@ -8,7 +8,7 @@ use Rattle.columns.specs.Tables.{of_table}
 use Rattle.columns.proofs.Rows.{seen}
 use Rattle.program.specs.Lines.{trace_line}
 use Rattle.verdict.specs.Core.{of_text, Ended}
-use Rattle.verdict.proofs.Laws.{nothing_put, stands_to, counts_to, same_text, length-outcome}
+use Rattle.verdict.proofs.Laws.{nothing_put, nothing, stands_to, counts_to, same_text, whole_text, length-outcome}
 use Rattle.verdict.proofs.Deciding.{ended_of, decides-refuses}
 use Rattle.verdict.proofs.Printing.{Lettered, trace-lettered, never-refused, counts-small, lines_two, lines-three, lines-refused, lines-ended}
 use Rattle.verdict.proofs.compared.Goals as goal
@@ -82,8 +82,9 @@ returns-in-Ok-trace_on c =
     let p = goal.at.returns-in-Ok-trace_on c in
     let e = has_ended p.In-Ok in
     let l = lettered p.In-Ok-trace_on e (traced-as p.After-trace_on) in
-    lines-three _ _ c.in-Ok.held _ _ _ _ e c.if-held.true c.new-out.ensures c.put_outcome.ensures c.put_counts.ensures
-    (same_text _ _ _ _ (ap trace_line l.letters) c.put_trace.ensures)
+    whole_text _ _ _ c.new-out.ensures
+    (lines-three _ _ c.in-Ok.held _ _ _ _ e c.if-held.true (nothing _ c.new-out.ensures) c.put_outcome.ensures c.put_counts.ensures
+    (same_text _ _ _ _ (ap trace_line l.letters) c.put_trace.ensures))
     ∙ ap of_text (lines-ended _ e.accepted)
 
 pub returns-in_default : goal.returns-in_default
@@ -96,5 +97,6 @@ returns-in_default c =
 
 pub returns-else-held : goal.returns-else-held
 returns-else-held c =
-    lines_two _ _ c.in-Ok.held _ _ _ (has_ended (goal.at.returns-else-held c).In-Ok) c.if-held.false c.new-out.ensures c.put_outcome.ensures c.put_counts.ensures
+    whole_text _ _ _ c.new-out.ensures
+    (lines_two _ _ c.in-Ok.held _ _ _ (has_ended (goal.at.returns-else-held c).In-Ok) c.if-held.false (nothing _ c.new-out.ensures) c.put_outcome.ensures c.put_counts.ensures)
     ∙ ap of_text (lines-ended _ (has_ended (goal.at.returns-else-held c).In-Ok).accepted)

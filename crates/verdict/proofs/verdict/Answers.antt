@@ -10,7 +10,7 @@ use Rattle.program.specs.Program.{left_sheet, right_sheet}
 use Rattle.verdict.specs.Core.{of_text, comparison_lines}
 use Rattle.verdict.proofs.Parting.{part-rest, unread, Readable, readable, lines_left, lines-right, lines-both}
 use Rattle.verdict.proofs.verdict.Goals as goal
-use Rattle.verdict.proofs.verdict.Goals.{After-min-end, After-read-on_left, After-read-on_right, In-Ok, In-Ok-on_right}
+use Rattle.verdict.proofs.verdict.Goals.{After-lesser-end, After-read-on_left, After-read-on_right, In-Ok, In-Ok-on_right}
 
 -- the lines of equal sides are equal
 same_lines :
@@ -36,26 +36,26 @@ reads-right input end r nodes e h =
 left-read : (c : After-read-on_left) → Reads (left_sheet c.args.input.now) (replicate 255 0) c.read-on_left.result c.read-on_left.new.nodes
 left-read c =
     let input = c.args.input.now in
-    reads-left input c.min-end.result _ _ (ends-at input _ _ c.min-end.ensures c.length_by_header.ensures) c.read-on_left.ensures
+    reads-left input c.lesser-end.result _ _ (ends-at input _ _ c.lesser-end.ensures c.length_by_header.ensures) c.read-on_left.ensures
 
 right-read : (c : After-read-on_right) → Reads (right_sheet c.args.input.now) (replicate 255 0) c.read-on_right.result c.read-on_right.new.nodes
 right-read c =
     let input = c.args.input.now in
-    reads-right input c.min-end.result _ _ (ends-at input _ _ c.min-end.ensures c.length_by_header.ensures)
-    (subst (λ (x : List ℕ). Reads x (replicate 255 0) c.read-on_right.result c.read-on_right.new.nodes) (part-rest c.min-end.result input) c.read-on_right.ensures)
+    reads-right input c.lesser-end.result _ _ (ends-at input _ _ c.lesser-end.ensures c.length_by_header.ensures)
+    (subst (λ (x : List ℕ). Reads x (replicate 255 0) c.read-on_right.result c.read-on_right.new.nodes) (part-rest c.lesser-end.result input) c.read-on_right.ensures)
 
 -- what was accepted
 was-left : (c : In-Ok) → Readable (left_sheet c.args.input.now) (replicate 255 0) c.read-on_left.new.nodes c.in-Ok.field-0.s c.in-Ok.field-0.nodes
 was-left c =
     let input = c.args.input.now in
-    readable _ _ _ _ _ _ c.in-Ok.is (reads-left input c.min-end.result _ _ (ends-at input _ _ c.min-end.ensures c.length_by_header.ensures) c.read-on_left.ensures)
+    readable _ _ _ _ _ _ c.in-Ok.is (reads-left input c.lesser-end.result _ _ (ends-at input _ _ c.lesser-end.ensures c.length_by_header.ensures) c.read-on_left.ensures)
 
 was-right : (c : In-Ok-on_right) → Readable (right_sheet c.args.input.now) (replicate 255 0) c.read-on_right.new.nodes c.in-Ok-on_right.field-0.s c.in-Ok-on_right.field-0.nodes
 was-right c =
     let input = c.args.input.now in
     readable _ _ _ _ _ _ c.in-Ok-on_right.is
-    (reads-right input c.min-end.result _ _ (ends-at input _ _ c.min-end.ensures c.length_by_header.ensures)
-    (subst (λ (x : List ℕ). Reads x (replicate 255 0) c.read-on_right.result c.read-on_right.new.nodes) (part-rest c.min-end.result input) c.read-on_right.ensures))
+    (reads-right input c.lesser-end.result _ _ (ends-at input _ _ c.lesser-end.ensures c.length_by_header.ensures)
+    (subst (λ (x : List ℕ). Reads x (replicate 255 0) c.read-on_right.result c.read-on_right.new.nodes) (part-rest c.lesser-end.result input) c.read-on_right.ensures))
 
 pub returns-in_default : goal.returns-in_default
 unfolding side_number reading
